@@ -1,0 +1,164 @@
+-- Reading and writing, in the words of document 01: from Round (what is written is read), Sound (what reads was written) and Moves (where
+-- a reading stops). That no tree has more than 190 bytes is by recursion over the tree.
+use Prim.Native.Nat.{ℕ, zero, suc, _+_, _*_, _/_, _≤_, _<_}
+use mathlib.Core.Path.{_≡_, refl, sym, ap, _∙_}
+use mathlib.Core.List.{List, [], _∷_, _++_, append-nil}
+use native.Mathlib.Omega.{arith}
+use lib.Dec.{ltb}
+use lib.IntN.{pos}
+use lib.ListN.{length, length-append}
+use borrow.Table.Steps.{cases}
+use borrow.Author.Tests.{ltb-true, lt-ltb}
+use Rattle.condition.specs.Limits.{mostEnds, lastNumber, largestBound, groups}
+use Rattle.condition.specs.Meaning.{End, is, isNot, atMost, above, Join, all, any, Tree, plain, leaf, join, Forest, none, more}
+use Rattle.condition.specs.Meaning.{ends, endsAll, count, EndWithin, Formed, FormedAll, Within}
+use Rattle.condition.specs.Bytes.{Octets, groupsOf, number, written, endBytes, joinTag, plainTag, bytes, bytesAll}
+use Rattle.condition.specs.Reading.{Reading, got, refused, readTree, tree, refusal, whole, read}
+use Rattle.condition.proofs.Steps.{Yields}
+use Rattle.condition.proofs.Round.{ends-each, tree-read}
+use Rattle.condition.proofs.Sound.{TreeWritten, tree-written}
+use Rattle.condition.proofs.Moves.{Ended, tree-ends}
+
+whole-written : (r : Reading Tree) (s : List ℕ) (t : Tree) → Yields r (TreeWritten 0 s 0) → whole r ≡ tree t → (s ≡ bytes t) × Within t
+whole-written (got u [] at) s t w e =
+    let same : u ≡ t = cc in
+    rw (← same) (w .took .from ∙ append-nil (bytes u), record { formed = w .good .0; few = omega arith })
+whole-written (got u (b ∷ l) at) s t w e = let z : _≡_ {A = ℕ} 0 1 = cc in absurd (omega arith)
+whole-written (refused n p) s t w e = let z : _≡_ {A = ℕ} 0 1 = cc in absurd (omega arith)
+
+-- what reads as a tree are that tree's bytes, and the tree is within the limits
+pub read-written : (s : List ℕ) (t : Tree) → Octets s → read s ≡ tree t → (s ≡ bytes t) × Within t
+unfolding read
+read-written s t o e = whole-written (readTree mostEnds s 0 0) s t (tree-written mostEnds s 0 0 (omega arith) o) e
+
+-- no two byte strings read as one tree
+pub one-string : (s s' : List ℕ) (t : Tree) → Octets s → Octets s' → read s ≡ tree t → read s' ≡ tree t → s ≡ s'
+one-string s s' t o o' e e' = read-written s t o e .0 ∙ sym (read-written s' t o' e' .0)
+
+-- a tree within the limits is read from its bytes
+pub written-read : (t : Tree) → Within t → read (bytes t) ≡ tree t
+unfolding read
+written-read t w = ap whole (rw append-nil at (tree-read t mostEnds 0 (w .formed) (omega arith) (omega arith) [] 0))
+
+octets-none : Octets []
+unfolding Octets
+octets-none = tt
+
+octets-both : (s s' : List ℕ) → Octets s → Octets s' → Octets (s ++ s')
+unfolding Octets
+octets-both [] s' o o' = o'
+octets-both (b ∷ s) s' o o' = (o .0, octets-both s s' (o .1) o')
+
+number-octets : (g n : ℕ) → Octets (groupsOf g n)
+unfolding Octets groupsOf
+number-octets zero n = tt
+number-octets (suc g) n =
+    cases (ltb n 128)
+    (λ e. rw e (omega (arith, ltb-true n 128 e), tt))
+    (λ e. rw e (omega arith, number-octets g (n / 128)))
+
+end-octets : (e : End) → Octets (endBytes e)
+unfolding endBytes
+end-octets (is p) = search (octets-both, number-octets)
+end-octets (isNot p) = search (octets-both, number-octets)
+end-octets (atMost x y c) = search (octets-both, number-octets)
+end-octets (above x y c) = search (octets-both, number-octets)
+
+-- a tree's bytes are bytes
+mutual
+  unfolding bytes bytesAll
+
+  pub bytes-octets : (t : Tree) → Octets (bytes t)
+  bytes-octets (plain b) = number-octets groups (plainTag b)
+  bytes-octets (leaf e) = end-octets e
+  bytes-octets (join j ts) = search (octets-both, number-octets, all-octets ts)
+
+  all-octets : (ts : Forest) → Octets (bytesAll ts)
+  all-octets none = octets-none
+  all-octets (more t ts) = octets-both (bytes t) (bytesAll ts) (bytes-octets t) (all-octets ts)
+
+whole-ended : (r : Reading Tree) (end n p : ℕ) → Ended r end → whole r ≡ refusal n p → (n ≡ 1 → p ≡ end) × (n ≡ 8 → p < end)
+whole-ended (got t [] at) end n p h e = let z : _≡_ {A = ℕ} 0 1 = cc in absurd (omega arith)
+whole-ended (got t (b ∷ l) at) end n p h e =
+    let answer : n ≡ 8 = cc in
+    let place : p ≡ at = cc in
+    omega arith
+whole-ended (refused m q) end n p h e =
+    let answer : n ≡ m = cc in
+    let place : p ≡ q = cc in
+    (λ one. place ∙ h .1 (omega arith), omega arith)
+
+read-ended : (s : List ℕ) (n p : ℕ) → read s ≡ refusal n p → (n ≡ 1 → p ≡ length s) × (n ≡ 8 → p < length s)
+unfolding read
+read-ended s n p e = whole-ended (readTree mostEnds s 0 0) (length s) n p (tree-ends (length s) mostEnds 0 s 0 (omega arith)) e
+
+-- answer 1: the place is the input length
+pub ended-at-end : (s : List ℕ) (p : ℕ) → read s ≡ refusal 1 p → p ≡ length s
+ended-at-end s p e = read-ended s 1 p e .0 refl
+
+-- answer 8: a byte stands at the place
+pub after-place : (s : List ℕ) (p : ℕ) → read s ≡ refusal 8 p → p < length s
+after-place s p e = read-ended s 8 p e .1 refl
+
+number-length : (g n : ℕ) → length (groupsOf g n) ≤ g
+unfolding groupsOf
+number-length zero n = omega arith
+number-length (suc g) n = cases (ltb n 128) (λ e. rw e (omega arith)) (λ e. rw e (omega (arith, number-length g (n / 128))))
+
+short-length : (n : ℕ) → n < 128 → length (number n) ≡ 1
+unfolding groupsOf
+short-length n h = rw (lt-ltb n 128 h)
+
+difference-length : (g x y w : ℕ) → (g ≤ 7) × (x ≤ lastNumber) × (y ≤ lastNumber) →
+    length (number g ++ (number x ++ (number y ++ number w))) ≤ 6
+difference-length g x y w h =
+    simp (length-append, short-length g (omega arith), short-length x (omega arith), short-length y (omega arith))
+    (omega (arith, number-length groups w))
+
+end-length : (e : End) → EndWithin e → length (endBytes e) ≤ 6
+unfolding endBytes
+end-length (is p) within = simp length-append (omega (arith, number-length groups 4, number-length groups p))
+end-length (isNot p) within = simp length-append (omega (arith, number-length groups 5, number-length groups p))
+end-length (atMost x y c) within = difference-length 6 x y (written c) (omega arith)
+end-length (above x y c) within = difference-length 7 x y (written c) (omega arith)
+
+tag-length : (j : Join) → length (number (joinTag j)) ≡ 1
+tag-length all = short-length 2 (omega arith)
+tag-length any = short-length 3 (omega arith)
+
+-- an end has at most 6 bytes; a connective adds 2, and has two children or more
+mutual
+  unfolding bytes bytesAll Formed FormedAll ends endsAll
+
+  tree-length : (t : Tree) → Formed t → ends t ≤ mostEnds → length (bytes t) + 2 ≤ 8 * ends t
+  tree-length (plain b) formed few = omega (arith, number-length groups (plainTag b))
+  tree-length (leaf e) formed few = omega (arith, end-length e formed)
+  tree-length (join j ts) formed few =
+      let owed = ends-each ts (formed .1) in
+      simp (length-append, tag-length, short-length (count ts) (omega arith)) (omega (arith, all-length ts (formed .1) few))
+
+  all-length : (ts : Forest) → FormedAll ts → endsAll ts ≤ mostEnds → length (bytesAll ts) + 2 * count ts ≤ 8 * endsAll ts
+  all-length none formed few = omega arith
+  all-length (more t ts) formed few =
+      simp length-append (omega (arith, tree-length t (formed .0) (omega arith), all-length ts (formed .1) (omega arith)))
+
+-- "The longest tree has 190 bytes."
+pub longest : (t : Tree) → Within t → length (bytes t) ≤ 190
+longest t w = omega (arith, tree-length t (w .formed) (w .few))
+
+-- one that has them: n connectives one inside the other, all ends of 6 bytes
+abbrev wide : Tree
+wide = leaf (atMost 0 0 (pos largestBound))
+
+tall : ℕ → Tree
+tall zero = wide
+tall (suc n) = join all (more wide (more (tall n) none))
+
+tall-formed : (n : ℕ) → Formed (tall n)
+unfolding tall Formed
+tall-formed zero = omega arith
+tall-formed (suc n) = (omega arith, (omega arith, (tall-formed n, tt)))
+
+pub longest-met : (t : Tree) × Within t × (length (bytes t) ≡ 190)
+unfolding tall ends bytes endBytes groupsOf
+longest-met = (tall 23, record { formed = tall-formed 23; few = omega arith }, refl)

@@ -1,0 +1,5 @@
+-- What a condition is, means and how it is written, in document 01's order: read these files first.
+pub mod Limits
+pub mod Meaning
+pub mod Bytes
+pub mod Reading

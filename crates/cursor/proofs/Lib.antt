@@ -1,0 +1,3 @@
+-- Laws of the cursor's steps, for the crates above.
+pub mod Steps
+mod Groups

@@ -1,0 +1,2 @@
+-- What reading leaves behind.
+pub mod Parts
