@@ -1,3 +1,4 @@
--- Laws of the cursor's steps, for the crates above.
+-- Laws of the cursor's steps and refusals, for the crates above.
 pub mod Steps
+pub mod Refusals
 mod Groups

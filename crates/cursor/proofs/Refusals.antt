@@ -1,0 +1,33 @@
+-- A refusal is read back off its number and place, so an answer that gives both gives the refusal.
+use Prim.Native.Nat.{ℕ, _≤_}
+use mathlib.Core.Path.{_≡_, refl}
+use mathlib.Core.Bool.{cond}
+use native.Mathlib.Omega.{arith}
+use lib.Dec.{eqb}
+use Rattle.cursor.specs.declared.Refusal.{Refusal}
+use Rattle.cursor.specs.declared.Refusal.the-variants.{Ended, Form, Tag, Count, Name, Bound, Crowd, After}
+use Rattle.cursor.specs.Said.{answerOf, placeOf}
+
+pub refusalOf : ℕ → ℕ → Refusal
+refusalOf n p =
+    cond (eqb n 1) (Ended p)
+    (cond (eqb n 2) (Form p)
+    (cond (eqb n 3) (Tag p)
+    (cond (eqb n 4) (Count p) (cond (eqb n 5) (Name p) (cond (eqb n 6) (Bound p) (cond (eqb n 7) (Crowd p) (After p)))))))
+
+-- the numbers 1 to 8, and the refusal back
+pub record Back (why : Refusal) : Type 0 where
+  pub least : 1 ≤ answerOf why
+  pub most : answerOf why ≤ 8
+  pub same : refusalOf (answerOf why) (placeOf why) ≡ why
+
+pub back : (why : Refusal) → Back why
+unfolding refusalOf
+back (Ended p) = record { least = omega arith; most = omega arith; same = refl }
+back (Form p) = record { least = omega arith; most = omega arith; same = refl }
+back (Tag p) = record { least = omega arith; most = omega arith; same = refl }
+back (Count p) = record { least = omega arith; most = omega arith; same = refl }
+back (Name p) = record { least = omega arith; most = omega arith; same = refl }
+back (Bound p) = record { least = omega arith; most = omega arith; same = refl }
+back (Crowd p) = record { least = omega arith; most = omega arith; same = refl }
+back (After p) = record { least = omega arith; most = omega arith; same = refl }

@@ -1,0 +1,4 @@
+-- Laws of judging.
+pub mod Signed
+pub mod Ends
+pub mod Walk
