@@ -1,0 +1,2 @@
+-- What the contracts of reading a line cite.
+pub mod Most
