@@ -6,3 +6,4 @@ pub mod Round
 pub mod Sound
 pub mod Moves
 pub mod Reading
+pub mod Small

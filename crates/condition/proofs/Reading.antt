@@ -6,7 +6,7 @@ use mathlib.Core.List.{List, [], _∷_, _++_, append-nil}
 use native.Mathlib.Omega.{arith}
 use lib.Dec.{ltb}
 use lib.IntN.{pos}
-use lib.ListN.{length, length-append}
+use lib.ListN.{length, getD, length-append}
 use borrow.Table.Steps.{cases}
 use borrow.Author.Tests.{ltb-true, lt-ltb}
 use Rattle.condition.specs.Limits.{mostEnds, lastNumber, largestBound, groups}
@@ -39,6 +39,12 @@ one-string s s' t o o' e e' = read-written s t o e .0 ∙ sym (read-written s' t
 pub written-read : (t : Tree) → Within t → read (bytes t) ≡ tree t
 unfolding read
 written-read t w = ap whole (rw append-nil at (tree-read t mostEnds 0 (w .formed) (omega arith) (omega arith) [] 0))
+
+-- a list whose every element is a byte
+pub octets : (s : List ℕ) → ((i : ℕ) → getD s i 0 < 256) → Octets s
+unfolding Octets
+octets [] h = tt
+octets (b ∷ s) h = (h 0, octets s (λ i. h (suc i)))
 
 octets-none : Octets []
 unfolding Octets

@@ -3,3 +3,4 @@ pub mod Limits
 pub mod Meaning
 pub mod Bytes
 pub mod Reading
+pub mod Satisfying

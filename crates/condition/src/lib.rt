@@ -8,4 +8,6 @@ pub const LAST_NUMBER: u32 = 15;
 
 pub const LARGEST_BOUND: u32 = 1_000_000;
 
+pub const FARTHEST: u32 = LAST_NUMBER * (LARGEST_BOUND + 1);
+
 pub const GROUPS: u32 = 3;

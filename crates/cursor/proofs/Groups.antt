@@ -1,9 +1,9 @@
 -- What each way out of `Cursor::group` shows: one equation of `numberFrom` a way, with the bytes from `at` on as a first byte and
 -- the rest.
 use Prim.Native.Nat.{ℕ, _+_, _-_, _*_, _^_, _≤_, _<_}
-use mathlib.Core.Path.{_≡_, refl}
+use mathlib.Core.Path.{_≡_, refl, ap, _∙_}
 use mathlib.Core.List.{List, []}
-use mathlib.Core.Bool.{true, false, _&&_}
+use mathlib.Core.Bool.{true, false, _&&_, and-false}
 use native.Mathlib.Nat.{pow-succ', pow-le-pow-right}
 use native.Mathlib.Omega.{arith}
 use lib.Dec.{ltb, eqb}
@@ -48,6 +48,13 @@ module _ (first : ℕ) (s : List ℕ) (at left : ℕ) where
           (λ n l' at'. got (b - 128 + 128 * n) l' at'))
           left some
           (rw (first-byte s at b here is) (simp (le-ltb _ _ h, less (left - 1))))
+
+-- a number of one byte: none can be padded
+pub one-byte : (s : List ℕ) (at b : ℕ) → at < length s → b ≡ getD s at 0 → b < 128 →
+    got b (from s (at + 1)) (at + 1) ≡ numberFrom groups at (from s at) at
+one-byte s at b here is h =
+    last-group at s at groups (λ e. omega arith) b here is h
+    (ap (λ x. eqb b 0 && x) (le-ltb at at (omega arith)) ∙ and-false (eqb b 0))
 
 -- sizes
 pub small-last : (left b : ℕ) → (left ≡ 0 → ⊥) → b < 128 → b < 128 ^ left

@@ -71,10 +71,18 @@ impl Cursor {
         Step::Value(b - 128 + 128 * n, end)
     }
 
+    // Most numbers are one byte: those need no recursion.
     pub fn number(self, s: &[u8]) -> Step
         ensures { λ r. ⌜ said (now (s .entry)) r ≡ numberFrom groups (self .at) (from (now (s .entry)) (self .at)) (self .at) ⌝ }
     {
-        self.group(s, self.at, GROUPS)
+        let at = self.at;
+        if at < s.len() {
+            let b = wide(s[at]);
+            if b < 128 {
+                return Step::Value(b, Cursor { at: at + 1 });
+            }
+        }
+        self.group(s, at, GROUPS)
     }
 
     // A number of at most most, or the refusal why.

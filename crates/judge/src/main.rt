@@ -1,18 +1,43 @@
 // Judges conditions typed as text, one a line, and prints each line with document 01's answer number, place and value.
-mod print;
-mod text;
-
 use libc::STDIN_FILENO;
-use print::print;
-use print::print_judged;
-use print::print_stuck;
-use text::MOST_BYTES;
-use text::MOST_NUMBERS;
-use text::Read;
-use text::line_end;
-use text::read_flags;
-use text::read_numbers;
-use text::read_tree;
+use travelring::Judged;
+use typed::print::print;
+use typed::print::print_answer;
+use typed::print::print_refusal;
+use typed::print::print_stuck;
+use typed::text::MOST_BYTES;
+use typed::text::MOST_NUMBERS;
+use typed::text::Read;
+use typed::text::is_heading;
+use typed::text::line_end;
+use typed::text::read_flags;
+use typed::text::read_numbers;
+use typed::text::read_tree;
+
+fn print_value(value: bool) {
+    if value {
+        print(b" true");
+    } else {
+        print(b" false");
+    }
+}
+
+fn print_judged(judged: Judged) {
+    match judged {
+        Judged::Value(value) => {
+            print_answer(0, 0);
+            print_value(value);
+        }
+        Judged::Refused(why) => {
+            print_refusal(why);
+            print_value(false);
+        }
+        Judged::Unfit => {
+            print_answer(11, 0);
+            print_value(false);
+        }
+    }
+}
 
 // From a line's numbers on, its condition and its boolean bits read.
 fn answer_under(line: &[u8], at: usize, tree: &[u8], flags: u32) {
@@ -38,13 +63,6 @@ fn answer(line: &[u8]) {
         Read::Value(n, next) => answer_tree(line, next, &tree[..n]),
         Read::Stuck(place) => print_stuck(place),
     }
-}
-
-fn is_heading(line: &[u8]) -> bool {
-    if line.len() == 0 {
-        return false;
-    }
-    line[0] == b'#'
 }
 
 fn judge_line(line: &[u8]) {

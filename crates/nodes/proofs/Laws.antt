@@ -7,7 +7,7 @@ use native.Mathlib.Omega.{arith}
 use Rattle.condition.specs.Meaning.{End, Join, all, any, Tree, plain, leaf, join, Forest, none, more, count, ends, endsAll, Formed, FormedAll}
 use Rattle.nodes.specs.declared.Node.{Node}
 use Rattle.nodes.specs.declared.Node.the-variants as node
-use Rattle.nodes.specs.Words.{sizeOf}
+use Rattle.nodes.specs.Words.{sizeOf, countOf}
 use Rattle.nodes.specs.Laid.{joinOf, isAll, flagEnd, boundEnd, EndIs, nodes, nodesAll, Laid, LaidAll}
 
 pub isAll-joinOf : (b : Bool) → isAll (joinOf b) ≡ b
@@ -80,6 +80,11 @@ at-join n i (join j ts) b k s q l =
     let h = l .0 in
     let same : isAll j ≡ b = cc in
     record { ts = ts; tree = ap (λ x. join x ts) (sym (joinOf-isAll j) ∙ ap joinOf same); many = cc; below = cc; laid = l .1 }
+
+-- a join's node gives its child count, and the children are laid after it
+pub counted : (n : ℕ → Node) (i : ℕ) (ts : Forest) (j : Join) → Laid (join j ts) n i → (countOf (n i) ≡ count ts) × LaidAll ts n (i + 1)
+unfolding Laid
+counted n i ts j l = (ap countOf (l .0), l .1)
 
 -- the children: none, or a first one and the others
 pub at-none : (ts : Forest) (k : ℕ) → count ts ≡ k → k ≡ 0 → ts ≡ none

@@ -36,6 +36,13 @@ sizeOf (Join all k s) = s + 1
 sizeOf (Flag so p) = 1
 sizeOf (Bound so x y w) = 1
 
+-- the children of a connective; an end has none
+abbrev pub countOf : Node → ℕ
+countOf (Plain b) = 0
+countOf (Join all k s) = k
+countOf (Flag so p) = 0
+countOf (Bound so x y w) = 0
+
 -- a node that its word holds whole
 abbrev pub Fits : Node → Type 0
 Fits (Plain b) = Unit {0}

@@ -4,7 +4,7 @@ ghost use mathlib.Core.Path.{_≡_};
 ghost use Prim.Native.Nat.{_+_, _≤_, _<_};
 ghost use mathlib.Core.Bool.{cond};
 ghost use lib.ListN.{set};
-ghost use Rattle.nodes.specs.Words.{packed, nodeOf, wordOf, nodeAt, sizeOf};
+ghost use Rattle.nodes.specs.Words.{packed, nodeOf, wordOf, nodeAt, sizeOf, countOf};
 
 // A tree of 24 ends has at most 47 nodes, a question about one of its ends at most one more.
 pub const ROOM: usize = 64;
@@ -80,6 +80,18 @@ pub fn put_node(ns: &mut [u64], i: usize, n: Node)
     let w = word_of(n);
     if i < ns.len() {
         ns[i] = w;
+    }
+}
+
+// How many children the connective at i has; an end has none.
+pub fn count_at(ns: &[u64], i: usize) -> u32
+    ensures { λ r. ⌜ r ≡ countOf (nodeAt (now (ns .entry)) i) ⌝ }
+{
+    match node_at(ns, i) {
+        Node::Join(_, k, _) => k,
+        Node::Plain(_) => 0,
+        Node::Flag(_, _) => 0,
+        Node::Bound(_, _, _, _) => 0,
     }
 }
 

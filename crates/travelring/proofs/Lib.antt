@@ -1,3 +1,4 @@
--- No choice is left: what the contracts of the public calls allow for one input is one outcome.
+-- What each way out of the public calls shows, and that no choice is left.
 pub mod Once
 mod Ways
+mod Reporting

@@ -1,34 +1,112 @@
--- No choice is left: any two outcomes that a contract allows for one input coincide. Each enum is read back off its number, place
--- and value, so what a contract fixes fixes the enum.
+-- No choice is left: any two outcomes that a contract allows for one input coincide, find's choice of assignment aside. Each enum is
+-- read back off its number, place and value, so what a contract fixes fixes the enum; and a tree that has a satisfying assignment
+-- cannot also have none.
 use Prim.Native.Nat.{ℕ}
 use mathlib.Core.Path.{_≡_, refl, sym, ap, _∙_}
 use mathlib.Core.List.{List}
 use mathlib.Core.Bool.{cond}
 use native.Mathlib.Omega.{arith}
+use native.Mathlib.Decide.{ℕ-discrete}
 use lib.Dec.{eqb}
 use lib.IntN.{ℤ}
+use lib.ListN.{length}
 use borrow.Author.Tests.{ne-eqb}
+use Rattle.condition.specs.Limits.{lastNumber}
+use Rattle.condition.specs.Meaning.{Tree, given}
+use Rattle.condition.specs.Reading.{Read, tree, refusal, read}
 use Rattle.cursor.specs.Said.{answerOf}
 use Rattle.cursor.proofs.Refusals.{refusalOf, back}
 use Rattle.travelring.specs.declared.Judged.{Judged}
-use Rattle.travelring.specs.declared.Judged.the-variants.{Value, Refused, Unfit}
-use Rattle.travelring.specs.Answers.{Judgement, judged, told}
+use Rattle.travelring.specs.declared.Judged.the-variants as judged-variants
+use Rattle.travelring.specs.Judging.{Judgement, judged, told}
+use Rattle.travelring.specs.declared.Found.{Found}
+use Rattle.travelring.specs.declared.Found.the-variants as found
+use Rattle.travelring.specs.Finding.{Finding, toldFound, Refuses, FindsTree, FindsRead, Finds}
+
+-- ---- judge
 
 judgedOf : Judgement → Judged
 judgedOf j =
-    cond (eqb (j .answer) 0) (Value (j .value))
-    (cond (eqb (j .answer) 11) Unfit (Refused (refusalOf (j .answer) (j .place))))
+    cond (eqb (j .answer) 0) (judged-variants.Value (j .value))
+    (cond (eqb (j .answer) 11) judged-variants.Unfit (judged-variants.Refused (refusalOf (j .answer) (j .place))))
 
 judged-back : (r : Judged) → judgedOf (told r) ≡ r
 unfolding judgedOf
-judged-back (Value b) = refl
-judged-back (Refused why) =
+judged-back (judged-variants.Value b) = refl
+judged-back (judged-variants.Refused why) =
     let h = back why in
     simp (ne-eqb (answerOf why) 0 (λ e. omega (arith, h .least)), ne-eqb (answerOf why) 11 (λ e. omega (arith, h .most)))
-    (ap Refused (h .same))
-judged-back Unfit = refl
+    (ap judged-variants.Refused (h .same))
+judged-back judged-variants.Unfit = refl
 
 -- judge's outcome is one
 pub judge-once : (s : List ℕ) (flags : ℕ) (numbers : List ℤ) (r r' : Judged) →
     told r ≡ judged s flags numbers → told r' ≡ judged s flags numbers → r ≡ r'
 judge-once s flags numbers r r' e e' = sym (judged-back r) ∙ ap judgedOf (e ∙ sym e') ∙ judged-back r'
+
+-- ---- find
+
+foundOf : Finding → Found
+foundOf f =
+    cond (eqb (f .answer) 0) (found.Shown (f .flags))
+    (cond (eqb (f .answer) 12) found.Nothing
+    (cond (eqb (f .answer) 11) found.Unfit (found.Refused (refusalOf (f .answer) (f .place)))))
+
+found-back : (r : Found) → foundOf (toldFound r) ≡ r
+unfolding foundOf
+found-back (found.Shown bits) = refl
+found-back found.Nothing = refl
+found-back (found.Refused why) =
+    let h = back why in
+    simp (
+      ne-eqb (answerOf why) 0 (λ e. omega (arith, h .least)),
+      ne-eqb (answerOf why) 12 (λ e. omega (arith, h .most)),
+      ne-eqb (answerOf why) 11 (λ e. omega (arith, h .most)),
+    )
+    (ap found.Refused (h .same))
+found-back found.Unfit = refl
+
+-- the same answer and place; and, unless an assignment was found, the same bits and the same numbers
+pub record Alike (r : Found) (numbers : List ℤ) (r' : Found) (numbers' : List ℤ) : Type 0 where
+  pub answer : toldFound r .answer ≡ toldFound r' .answer
+  pub place : toldFound r .place ≡ toldFound r' .place
+  pub rest : (toldFound r .answer ≡ 0 → ⊥) → (r ≡ r') × (numbers ≡ numbers')
+
+refuses-alike : (n p : ℕ) (numbers : List ℤ) (r : Found) (numbers₁ : List ℤ) (r' : Found) (numbers₂ : List ℤ) →
+    Refuses n p numbers r numbers₁ → Refuses n p numbers r' numbers₂ → Alike r numbers₁ r' numbers₂
+refuses-alike n p numbers r numbers₁ r' numbers₂ h h' =
+    let e = h .told ∙ sym (h' .told) in
+    record {
+      answer = ap (λ f. f .answer) e;
+      place = ap (λ f. f .place) e;
+      rest = λ z. (sym (found-back r) ∙ ap foundOf e ∙ found-back r', h .kept ∙ sym (h' .kept));
+    }
+
+tree-alike : (t : Tree) (numbers : List ℤ) (r : Found) (numbers₁ : List ℤ) (r' : Found) (numbers₂ : List ℤ) →
+    FindsTree t numbers r numbers₁ → FindsTree t numbers r' numbers₂ → Alike r numbers₁ r' numbers₂
+tree-alike t numbers (found.Shown bits) numbers₁ (found.Shown bits') numbers₂ h h' =
+    record { answer = refl; place = refl; rest = λ z. absurd (z refl) }
+tree-alike t numbers (found.Shown bits) numbers₁ found.Nothing numbers₂ h h' = absurd (h' .0 (given bits numbers₁, h .0))
+tree-alike t numbers (found.Shown bits) numbers₁ (found.Refused why) numbers₂ h h' = absurd h'
+tree-alike t numbers (found.Shown bits) numbers₁ found.Unfit numbers₂ h h' = absurd h'
+tree-alike t numbers found.Nothing numbers₁ (found.Shown bits) numbers₂ h h' = absurd (h .0 (given bits numbers₂, h' .0))
+tree-alike t numbers found.Nothing numbers₁ found.Nothing numbers₂ h h' =
+    record { answer = refl; place = refl; rest = λ z. (refl, h .1 ∙ sym (h' .1)) }
+tree-alike t numbers found.Nothing numbers₁ (found.Refused why) numbers₂ h h' = absurd h'
+tree-alike t numbers found.Nothing numbers₁ found.Unfit numbers₂ h h' = absurd h'
+tree-alike t numbers (found.Refused why) numbers₁ r' numbers₂ h h' = absurd h
+tree-alike t numbers found.Unfit numbers₁ r' numbers₂ h h' = absurd h
+
+read-alike : (x : Read) (numbers : List ℤ) (r : Found) (numbers₁ : List ℤ) (r' : Found) (numbers₂ : List ℤ) →
+    FindsRead x numbers r numbers₁ → FindsRead x numbers r' numbers₂ → Alike r numbers₁ r' numbers₂
+read-alike (tree t) = tree-alike t
+read-alike (refusal n p) = refuses-alike n p
+
+-- find's outcome is one, the assignment shown aside
+pub find-once : (s : List ℕ) (numbers : List ℤ) (r : Found) (numbers₁ : List ℤ) (r' : Found) (numbers₂ : List ℤ) →
+    Finds s numbers r numbers₁ → Finds s numbers r' numbers₂ → Alike r numbers₁ r' numbers₂
+find-once s numbers r numbers₁ r' numbers₂ h h' =
+    elim (ℕ-discrete (length numbers) lastNumber) [
+      | yes e ↦ read-alike (read s) numbers r numbers₁ r' numbers₂ (h .fit e) (h' .fit e)
+      | no ne ↦ refuses-alike 11 0 numbers r numbers₁ r' numbers₂ (h .unfit ne) (h' .unfit ne)
+    ]

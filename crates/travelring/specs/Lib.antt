@@ -1,2 +1,4 @@
 -- What the public calls answer.
-pub mod Answers
+pub mod Judging
+pub mod Finding
+pub mod Reports

@@ -1,0 +1,3 @@
+-- What a table of differences says, and what the calls on it promise: read Table.antt first.
+pub mod Table
+pub mod Rows

@@ -1,0 +1,39 @@
+-- A report follows what the call answered: its three numbers are those of document 01 for the enum's case.
+use Prim.Native.Nat.{ℕ}
+use mathlib.Core.Path.{_≡_, ap, ap₂, _∙_}
+use mathlib.Core.List.{List}
+use mathlib.Core.Bool.{cond}
+use lib.IntN.{ℤ}
+use lib.ListN.{set}
+use Rattle.travelring.specs.declared.Judged.{Judged}
+use Rattle.travelring.specs.declared.Found.{Found}
+use Rattle.travelring.specs.declared.boundary.Said.{Said}
+use Rattle.travelring.specs.Judging.{judged, told}
+use Rattle.travelring.specs.Finding.{toldFound, Finds}
+use Rattle.travelring.specs.Reports.{Reports, ReportsJudged, ReportsFound, saidJudged, saidFound}
+
+-- three numbers, two of them written
+reports : (said : Said) (answer place value : ℕ) → said .0 ≡ answer → said .1 ≡ place → said .2 ≡ value → (report : List ℕ) →
+    Reports answer place value (said .0) report (set (set report 0 (said .1)) 1 (said .2))
+reports said answer place value a p v report = record { answered = a; written = ap₂ (λ x y. set (set report 0 x) 1 y) p v }
+
+pub judge-reports : (s : List ℕ) (flags : ℕ) (numbers : List ℤ) (report : List ℕ) (r : Judged) (said : Said) →
+    told r ≡ judged s flags numbers → said ≡ saidJudged r →
+    ReportsJudged (judged s flags numbers) (said .0) report (set (set report 0 (said .1)) 1 (said .2))
+judge-reports s flags numbers report r said e q =
+    let j = judged s flags numbers in
+    reports said (j .answer) (j .place) (cond (j .value) 1 0)
+    (ap (λ x. x .0) q ∙ ap (λ x. x .answer) e)
+    (ap (λ x. x .1) q ∙ ap (λ x. x .place) e)
+    (ap (λ x. x .2) q ∙ ap (λ x. cond (x .value) 1 0) e)
+    report
+
+pub find-reports : (s : List ℕ) (numbers numbers' : List ℤ) (report : List ℕ) (r : Found) (said : Said) →
+    Finds s numbers r numbers' → said ≡ saidFound r →
+    ReportsFound s numbers numbers' (said .0) report (set (set report 0 (said .1)) 1 (said .2))
+find-reports s numbers numbers' report r said f q = record {
+  found = r;
+  finds = f;
+  reports = reports said (toldFound r .answer) (toldFound r .place) (toldFound r .flags) (ap (λ x. x .0) q) (ap (λ x. x .1) q)
+      (ap (λ x. x .2) q) report;
+}

@@ -1,0 +1,21 @@
+-- `travelring_find` meets its contract: what find answers, as three numbers, two of them in the report.
+use Rattle.travelring.proofs.Reporting.{find-reports}
+use borrow.Author.Needs.{needs}
+use Rattle.travelring.proofs.boundary.travelring_find.Statement.{statement}
+use Rattle.travelring.proofs.boundary.travelring_find.Tie as tie
+
+returns : tie.Need-returns
+returns c =
+    let find = c .before .before .find in
+    find-reports _ _ _ _ _ _ (find .ensures) (c .said-found .ensures)
+
+pub travelring-find-spec : {M : Type 1} → statement M
+travelring-find-spec =
+    tie.close
+    (tie.spec
+    (λ c κs. search needs)
+    (λ c κs. search needs)
+    (λ c. search needs)
+    (λ c. search needs)
+    (λ c. search needs)
+    returns)

@@ -1,0 +1,18 @@
+-- `travelring_judge` meets its contract: what judge answers, as three numbers, two of them in the report.
+use Rattle.travelring.proofs.Reporting.{judge-reports}
+use borrow.Author.Needs.{needs}
+use Rattle.travelring.proofs.boundary.travelring_judge.Statement.{statement}
+use Rattle.travelring.proofs.boundary.travelring_judge.Tie as tie
+
+returns : tie.Need-returns
+returns c = judge-reports _ _ _ _ (c .before .judge .result) _ (c .before .judge .ensures) (c .said-judged .ensures)
+
+pub travelring-judge-spec : {M : Type 1} → statement M
+travelring-judge-spec =
+    tie.close
+    (tie.spec
+    (λ c κs. search needs)
+    (λ c κs. search needs)
+    (λ c. search needs)
+    (λ c. search needs)
+    returns)

@@ -1,0 +1,45 @@
+-- What the calls of the C boundary return and write: document 01's number, and in every answer a report of place and value.
+use Prim.Native.Nat.{ℕ}
+use mathlib.Core.Path.{_≡_}
+use mathlib.Core.List.{List}
+use mathlib.Core.Bool.{cond}
+use lib.IntN.{ℤ}
+use lib.ListN.{set}
+use Rattle.cursor.specs.declared.Refusal.{Refusal}
+use Rattle.cursor.specs.Said.{answerOf, placeOf}
+use Rattle.travelring.specs.declared.Judged.{Judged}
+use Rattle.travelring.specs.declared.Found.{Found}
+use Rattle.travelring.specs.declared.boundary.Said.{Said}
+use Rattle.travelring.specs.Judging.{Judgement, told}
+use Rattle.travelring.specs.Finding.{Finding, toldFound, Finds}
+
+-- the number returned, and a report of two numbers that holds the place and what comes with the answer
+pub record Reports (answer place value : ℕ) (r : ℕ) (report report' : List ℕ) : Type 0 where
+  pub answered : r ≡ answer
+  pub written : report' ≡ set (set report 0 place) 1 value
+
+-- judge: the value is 1 or 0
+abbrev pub ReportsJudged : Judgement → ℕ → List ℕ → List ℕ → Type 0
+ReportsJudged j = Reports (j .answer) (j .place) (cond (j .value) 1 0)
+
+-- find: the value is the boolean bits
+abbrev pub ReportsFinding : Finding → ℕ → List ℕ → List ℕ → Type 0
+ReportsFinding f = Reports (f .answer) (f .place) (f .flags)
+
+pub record ReportsFound (s : List ℕ) (numbers numbers' : List ℤ) (r : ℕ) (report report' : List ℕ) : Type 0 where
+  pub found : Found
+  pub finds : Finds s numbers found numbers'
+  pub reports : ReportsFinding (toldFound found) r report report'
+
+-- an answer as three numbers
+abbrev pub three : ℕ → ℕ → ℕ → Said
+three answer place value = record { 0 = answer; 1 = place; 2 = value }
+
+abbrev pub saidRefusal : Refusal → Said
+saidRefusal why = three (answerOf why) (placeOf why) 0
+
+abbrev pub saidJudged : Judged → Said
+saidJudged r = three (told r .answer) (told r .place) (cond (told r .value) 1 0)
+
+abbrev pub saidFound : Found → Said
+saidFound r = three (toldFound r .answer) (toldFound r .place) (toldFound r .flags)

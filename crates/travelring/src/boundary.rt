@@ -1,0 +1,80 @@
+// The C boundary. Each call returns document 01's number and writes its report, a place and a value, in every answer.
+use crate::Found;
+use crate::Judged;
+use cursor::Refusal;
+ghost use mathlib.Core.Path.{_≡_};
+ghost use mathlib.Core.Bool.{cond};
+ghost use Rattle.travelring.specs.Judging.{judged};
+ghost use Rattle.travelring.specs.Reports.{ReportsJudged, ReportsFound, saidRefusal, saidJudged, saidFound};
+
+// An answer's number, its place, and what comes with it.
+pub struct Said(pub u32, pub u64, pub u64);
+
+fn said_refusal(why: Refusal) -> Said
+    ensures { λ r. ⌜ r ≡ saidRefusal why ⌝ }
+{
+    match why {
+        Refusal::Ended(at) => Said(1, at as u64, 0),
+        Refusal::Form(at) => Said(2, at as u64, 0),
+        Refusal::Tag(at) => Said(3, at as u64, 0),
+        Refusal::Count(at) => Said(4, at as u64, 0),
+        Refusal::Name(at) => Said(5, at as u64, 0),
+        Refusal::Bound(at) => Said(6, at as u64, 0),
+        Refusal::Crowd(at) => Said(7, at as u64, 0),
+        Refusal::After(at) => Said(8, at as u64, 0),
+    }
+}
+
+fn bit(b: bool) -> u64
+    ensures { λ r. ⌜ r ≡ cond b 1 0 ⌝ }
+{
+    if b { 1 } else { 0 }
+}
+
+fn said_judged(judged: Judged) -> Said
+    ensures { λ r. ⌜ r ≡ saidJudged judged ⌝ }
+{
+    match judged {
+        Judged::Value(b) => Said(0, 0, bit(b)),
+        Judged::Refused(why) => said_refusal(why),
+        Judged::Unfit => Said(11, 0, 0),
+    }
+}
+
+fn said_found(found: Found) -> Said
+    ensures { λ r. ⌜ r ≡ saidFound found ⌝ }
+{
+    match found {
+        Found::Shown(bits) => Said(0, 0, bits as u64),
+        Found::Nothing => Said(12, 0, 0),
+        Found::Refused(why) => said_refusal(why),
+        Found::Unfit => Said(11, 0, 0),
+    }
+}
+
+// Judges the condition; the report is place and value.
+#[no_mangle]
+pub extern "C" fn travelring_judge(
+    tree: &[u8],
+    flags: u32,
+    numbers: &[i32],
+    report: &mut [u64; 2],
+) -> u32
+    ensures { λ r. ⌜ ReportsJudged (judged (now (tree .entry)) flags (now (numbers .entry))) r (now (report .entry)) (now (report .exit)) ⌝ }
+{
+    let said = said_judged(crate::judge(tree, flags, numbers));
+    report[0] = said.1;
+    report[1] = said.2;
+    said.0
+}
+
+// Finds an assignment; the report is place and boolean bits.
+#[no_mangle]
+pub extern "C" fn travelring_find(tree: &[u8], numbers: &mut [i32], report: &mut [u64; 2]) -> u32
+    ensures { λ r. ⌜ ReportsFound (now (tree .entry)) (now (numbers .entry)) (now (numbers .exit)) r (now (report .entry)) (now (report .exit)) ⌝ }
+{
+    let said = said_found(crate::find(tree, numbers));
+    report[0] = said.1;
+    report[1] = said.2;
+    said.0
+}

@@ -1,0 +1,3 @@
+// Conditions typed as text, one a line: reading a line, and printing an answer.
+pub mod print;
+pub mod text;
