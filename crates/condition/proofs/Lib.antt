@@ -7,3 +7,12 @@ pub mod Sound
 pub mod Moves
 pub mod Reading
 pub mod Small
+pub mod Folding
+pub mod Putting
+pub mod Critical
+pub mod Run
+pub mod Ration
+pub mod Sweep
+pub mod Deciding
+pub mod Trimmed
+pub mod Count

@@ -13,7 +13,7 @@ use borrow.Table.Steps.{cases}
 use borrow.Author.Tests.{ltb-true, ltb-false, leb-true, leb-false, not-true, not-false, le-leb, lt-leb}
 use Rattle.condition.specs.Meaning.{Assignment, value, End, is, isNot, atMost, above, met, Join, all, any, joined, unit}
 use Rattle.condition.specs.Meaning.{Tree, plain, leaf, join, Forest, none, more, holds, each, ends, endsAll}
-use Rattle.condition.specs.Meaning.{other, opposite, negate, negateAll}
+use Rattle.condition.specs.Meaning.{other, opposite, negate, negateAll, count, EndWithin, Formed, FormedAll}
 
 pub opposite-met : (e : End) (a : Assignment) → met (opposite e) a ≡ not (met e a)
 unfolding met opposite
@@ -79,6 +79,30 @@ mutual
   pub ends-negateAll : (ts : Forest) → endsAll (negateAll ts) ≡ endsAll ts
   ends-negateAll none = refl
   ends-negateAll (more t ts) = ap₂ _+_ (ends-negate t) (ends-negateAll ts)
+
+pub opposite-within : (e : End) → EndWithin e → EndWithin (opposite e)
+unfolding opposite
+opposite-within (is p) w = w
+opposite-within (isNot p) w = w
+opposite-within (atMost x y c) w = w
+opposite-within (above x y c) w = w
+
+negateAll-count : (ts : Forest) → count (negateAll ts) ≡ count ts
+unfolding negateAll
+negateAll-count none = refl
+negateAll-count (more t ts) = ap suc (negateAll-count ts)
+
+mutual
+  unfolding negate negateAll Formed FormedAll
+
+  pub negate-formed : (t : Tree) → Formed t → Formed (negate t)
+  negate-formed (plain b) w = w
+  negate-formed (leaf e) w = opposite-within e w
+  negate-formed (join j ts) w = (omega (arith, negateAll-count ts, w .0), negateAll-formed ts (w .1))
+
+  pub negateAll-formed : (ts : Forest) → FormedAll ts → FormedAll (negateAll ts)
+  negateAll-formed none w = w
+  negateAll-formed (more t ts) w = (negate-formed t (w .0), negateAll-formed ts (w .1))
 
 -- z is up z - down z
 abbrev pub up : ℤ → ℕ

@@ -106,7 +106,7 @@ ended-at-end s p e = read-ended s 1 p e .0 refl
 pub after-place : (s : List ℕ) (p : ℕ) → read s ≡ refusal 8 p → p < length s
 after-place s p e = read-ended s 8 p e .1 refl
 
-number-length : (g n : ℕ) → length (groupsOf g n) ≤ g
+pub number-length : (g n : ℕ) → length (groupsOf g n) ≤ g
 unfolding groupsOf
 number-length zero n = omega arith
 number-length (suc g) n = cases (ltb n 128) (λ e. rw e (omega arith)) (λ e. rw e (omega (arith, number-length g (n / 128))))

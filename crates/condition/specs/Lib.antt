@@ -4,3 +4,8 @@ pub mod Meaning
 pub mod Bytes
 pub mod Reading
 pub mod Satisfying
+pub mod Folding
+pub mod Critical
+pub mod Deciding
+pub mod Sweep
+pub mod Counting

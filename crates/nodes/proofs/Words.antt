@@ -3,8 +3,9 @@
 use Prim.Native.Nat.{ℕ, _+_, _*_, _/_, _%_, _<_}
 use mathlib.Core.Path.{_≡_, ap, _∙_}
 use mathlib.Core.List.{List}
-use mathlib.Core.Bool.{true, false}
+use mathlib.Core.Bool.{Bool, true, false, cond}
 use native.Mathlib.Omega.{arith}
+use lib.Dec.{ltb, eqb}
 use lib.ListN.{length, set}
 use lib.Seq.{getD-set-same, getD-set-other}
 use Rattle.nodes.specs.declared.Node.{Node}
@@ -37,6 +38,20 @@ read-back (Flag true p) h = unpacked 4 p 0 0 (omega arith) h (omega arith)
 read-back (Flag false p) h = unpacked 5 p 0 0 (omega arith) h (omega arith)
 read-back (Bound true x y w) h = unpacked 6 x y w (omega arith) (h .0) (h .1)
 read-back (Bound false x y w) h = unpacked 7 x y w (omega arith) (h .0) (h .1)
+
+-- what a word holds fits a word
+pub read-fits : (w : ℕ) → Fits (nodeOf w)
+unfolding nodeOf
+read-fits w = by-tag (w % 256) (w / 256 % 256) (w / 65536 % 256) (w / 4294967296) (omega arith) (omega arith)
+  where
+    by-tag : (g a b c : ℕ) → a < 256 → b < 256 → Fits (byTag g a b c)
+    by-tag g a b c ha hb = tests (ltb g 2) (ltb g 4) (ltb g 6)
+      where
+        tests : (x y z : Bool) → Fits (cond x (Plain (eqb g 1)) (cond y (Join (eqb g 2) a b) (cond z (Flag (eqb g 4) a) (Bound (eqb g 6) a b c))))
+        tests true y z = tt
+        tests false true z = (ha, hb)
+        tests false false true = ha
+        tests false false false = (ha, hb)
 
 pub put-here : (l : List ℕ) (i : ℕ) (k : Node) → i < length l → Fits k → nodeAt (set l i (wordOf k)) i ≡ k
 put-here l i k h f = ap nodeOf (getD-set-same l i (wordOf k) 0 h) ∙ read-back k f

@@ -3,7 +3,8 @@ use Prim.Native.Nat.{ℕ, _+_, _≤_}
 use mathlib.Core.Path.{_≡_, refl, sym, subst, ap, _∙_}
 use mathlib.Core.Bool.{Bool, true, false, _&&_}
 use native.Mathlib.Omega.{arith}
-use Rattle.condition.specs.Meaning.{Assignment, all, Tree, Forest, none, more, each, holds, FormedAll, Formed}
+use Rattle.condition.specs.Meaning.{Assignment, all, Tree, Forest, none, more, each, holds}
+use Rattle.condition.specs.Satisfying.{Named, NamedAll}
 use Rattle.nodes.specs.declared.Node.{Node}
 use Rattle.nodes.specs.Laid.{nodes, nodesAll, Laid, LaidAll}
 use Rattle.nodes.proofs.Laws.{some-node}
@@ -23,10 +24,10 @@ module _ (us : Forest) where
   append-laid none n i l m = subst (LaidAll us n) (omega arith) m
   append-laid (more t ts) n i l m = (l .0, append-laid ts n (i + nodes t) (l .1) (subst (LaidAll us n) (omega arith) m))
 
-  pub append-formed : (ts : Forest) → FormedAll ts → FormedAll us → FormedAll (append ts us)
-  unfolding append Formed
-  append-formed none f g = g
-  append-formed (more t ts) f g = (f .0, append-formed ts (f .1) g)
+  pub append-named : (ts : Forest) → NamedAll ts → NamedAll us → NamedAll (append ts us)
+  unfolding append Named
+  append-named none f g = g
+  append-named (more t ts) f g = (f .0, append-named ts (f .1) g)
 
 and-again : (x y z : Bool) → ((x && y) && z) ≡ (x && (y && z))
 and-again true y z = refl

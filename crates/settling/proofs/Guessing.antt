@@ -11,8 +11,8 @@ use lib.IntN.{ℤ, pos}
 use lib.ListN.{length, getD, List·getD-eq-default}
 use borrow.Author.Tests.{eq-eqb, ne-eqb, eqb-true}
 use Rattle.condition.specs.Limits.{lastBoolean, lastNumber}
-use Rattle.condition.specs.Meaning.{Assignment, value, met, any, Tree, Forest, none, more, count, holds, each, Formed, FormedAll, given}
-use Rattle.condition.specs.Satisfying.{Satisfiable}
+use Rattle.condition.specs.Meaning.{Assignment, value, met, any, Tree, Forest, none, more, count, holds, each, given}
+use Rattle.condition.specs.Satisfying.{Satisfiable, Named, NamedAll}
 use Rattle.condition.proofs.Small.{small}
 use Rattle.differences.specs.Table.{Meets, Closed, tightest, Starts}
 use Rattle.differences.proofs.Closed.{tightest-meets}
@@ -107,7 +107,7 @@ module _ (n : ℕ → Node) (o : List ℕ) (many : ℕ) (b t : List ℕ) (left :
           r numbers'
           (h .right (x .ts) os (record {
             laid = c .1;
-            formed = x .formed;
+            named = x .named;
             waits = w .3;
             near = omega (arith, st .near);
             few =
@@ -175,21 +175,21 @@ module _ (n : ℕ → Node) (i k : ℕ) (o : List ℕ) (many : ℕ) (b t : List 
       some : 1 ≤ nodesAll (more u none)
 
     child : (us : Forest) (os : List Tree) → Work n i us o many os → count us ≡ k → Child us os
-    unfolding nodes Laid Formed
+    unfolding nodes Laid Named
     child us os w e =
         let f = at-more us n i k e nz (w .laid) in
         let z : i + s ≡ i + nodes (f .t) = ap (λ x. i + x) (size ∙ sized (f .t) n i (f .laid)) in
-        let g : FormedAll (more (f .t) (f .us)) = subst FormedAll (f .forest) (w .formed) in
+        let g : NamedAll (more (f .t) (f .us)) = subst NamedAll (f .forest) (w .named) in
         record {
           u = f .t;
           rest = f .us;
           same = f .forest;
           work = record
-              { laid = (f .laid, tt); formed = (g .0, tt); waits = w .waits; near = omega (arith, w .near, f .total); few = omega (arith, w .few, f .total) };
+              { laid = (f .laid, tt); named = (g .0, tt); waits = w .waits; near = omega (arith, w .near, f .total); few = omega (arith, w .few, f .total) };
           end = omega arith;
           others = record {
             laid = subst (LaidAll (f .us) n) (sym z) (f .others);
-            formed = g .1;
+            named = g .1;
             waits = w .waits;
             near = omega
                 (arith, w .near, f .total);
@@ -283,16 +283,16 @@ module _ (n : ℕ → Node) (size : ℕ) (numbers : List ℤ) where
 
   pub find-attempted : (o b t : List ℕ) (r : Verdict) (numbers' : List ℤ) → Attempts n 0 size o 0 b t 200 numbers r numbers' →
       Starts t → allZero b ≡ true → Finds n size numbers r numbers'
-  unfolding holds bulk nodes owed Waits Laid Formed
+  unfolding holds bulk nodes owed Waits Laid Named
   find-attempted o b t r numbers' g st z = record { kept = g .kept; right = λ zn u l e few f. by u l e few f }
     where
       -- the whole tree, nothing settled and nothing waiting
-      by : (u : Tree) → Laid u n 0 → nodes u ≡ size → size ≤ 64 → Formed u → Right u r numbers'
+      by : (u : Tree) → Laid u n 0 → nodes u ≡ size → size ≤ 64 → Named u → Right u r numbers'
       by u l e few f =
           shown r
           (g .right (more u none) [] (record {
             laid = (l, tt);
-            formed = (f, tt);
+            named = (f, tt);
             waits = refl;
             near = omega arith;
             few = omega

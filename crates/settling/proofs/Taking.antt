@@ -8,13 +8,14 @@ use mathlib.Core.Bool.{Bool, true, false, _&&_}
 use native.Mathlib.Omega.{arith}
 use lib.ListN.{length, set, length-set}
 use lib.Seq.{getD-set-same, getD-set-other}
-use Rattle.condition.specs.Meaning.{Assignment, all, any, Tree, join, Forest, none, more, holds, each, Formed, FormedAll}
+use Rattle.condition.specs.Meaning.{Assignment, all, any, Tree, join, Forest, none, more, holds, each}
+use Rattle.condition.specs.Satisfying.{Named, NamedAll}
 use Rattle.nodes.specs.declared.Node.{Node}
 use Rattle.nodes.specs.declared.Node.the-variants as node
 use Rattle.nodes.specs.Laid.{nodes, nodesAll, Laid, LaidAll}
 use Rattle.nodes.proofs.Laws.{some-node, at-plain, at-flag, at-bound, at-join}
 use Rattle.settling.specs.Settled.{Knows, Marks, Bounds, Or, Stands, Waits, owed, bulk, State, Work, Done, Reaches, Takes, Settles}
-use Rattle.settling.proofs.Forests.{append, append-nodes, append-laid, append-formed, append-each, both, together, first}
+use Rattle.settling.proofs.Forests.{append, append-nodes, append-laid, append-named, append-each, both, together, first}
 
 pub differ : {A : Type 0} → true ≡ false → A
 differ e = absurd (let z : _≡_ {A = ℕ} 0 1 = cc in omega arith)
@@ -54,9 +55,9 @@ module _ {n : ℕ → Node} {i : ℕ} {us : Forest} {o : List ℕ} {many : ℕ} 
   unfolding Laid
   laid-first = subst (λ x. LaidAll x n i) same (w .laid)
 
-  formed-first : Formed u × FormedAll rest
-  unfolding Formed
-  formed-first = subst FormedAll same (w .formed)
+  named-first : Named u × NamedAll rest
+  unfolding Named
+  named-first = subst NamedAll same (w .named)
 
   size-first : nodesAll us ≡ nodes u + nodesAll rest
   unfolding nodes
@@ -74,7 +75,7 @@ module _ {n : ℕ → Node} {i : ℕ} {us : Forest} {o : List ℕ} {many : ℕ} 
     os' = os;
     work = record {
       laid = subst (λ x. LaidAll rest n (i + x)) one (laid-first .1);
-      formed = formed-first .1;
+      named = named-first .1;
       waits = w .waits;
       near = omega (arith, w .near, size-first);
       few = omega (arith, w .few, size-first);
@@ -93,10 +94,10 @@ module _ {n : ℕ → Node} {i : ℕ} {us : Forest} {o : List ℕ} {many : ℕ} 
 
   -- an `and`: its children first
   and-taken : (b t : List ℕ) (ts : Forest) → u ≡ join all ts → LaidAll ts n (i + 1) → Reaches n i us os b t (i + 1) o many b t
-  unfolding nodes holds Formed
+  unfolding nodes holds Named
   and-taken b t ts e l =
       let s : nodes u ≡ nodesAll ts + 1 = ap nodes e in
-      let f : Formed (join all ts) = subst Formed e (formed-first .0) in
+      let f : Named (join all ts) = subst Named e (named-first .0) in
       let m = append-nodes rest ts in
       let v : (a : Assignment) → each us all a ≡ each (append ts rest) all a = λ a. each-first a ∙ ap
       (λ x. holds x a && each rest all a) e ∙ sym (append-each ts rest a) in
@@ -105,7 +106,7 @@ module _ {n : ℕ → Node} {i : ℕ} {us : Forest} {o : List ℕ} {many : ℕ} 
         os' = os;
         work = record {
           laid = append-laid rest ts n (i + 1) l (subst (LaidAll rest n) (omega arith) (laid-first .1));
-          formed = append-formed rest ts (f .1) (formed-first .1);
+          named = append-named rest ts f (named-first .1);
           waits = w .waits;
           near = omega (arith, w .near, size-first);
           few = omega (arith, w .few, size-first);
@@ -121,17 +122,17 @@ module _ {n : ℕ → Node} {i : ℕ} {us : Forest} {o : List ℕ} {many : ℕ} 
   -- an `or` waits
   or-taken : (b t : List ℕ) (ts : Forest) (s : ℕ) → u ≡ join any ts → nodesAll ts ≡ s → many < length o →
       Reaches n i us os b t (i + 1 + s) (set o many i) (many + 1) b t
-  unfolding nodes owed bulk Formed
+  unfolding nodes owed bulk Named
   or-taken b t ts s e z room =
       let m : nodes u ≡ nodesAll ts + 1 = ap nodes e in
-      let f : Formed (join any ts) = subst Formed e (formed-first .0) in
+      let f : Named (join any ts) = subst Named e (named-first .0) in
       record {
         us' = rest;
         os' = u ∷ os;
         work = record {
           laid = subst (LaidAll rest n) (omega arith) (laid-first .1);
-          formed = formed-first .1;
-          waits = waits-push u os n o many i room (record { ts = ts; same = e; formed = f .1 })
+          named = named-first .1;
+          waits = waits-push u os n o many i room (record { ts = ts; same = e; named = f })
               (record { laid = laid-first .0; near = omega (arith, w .near, size-first) }) (w .waits);
           near = omega (arith, w .near, size-first);
           few = omega (arith, w .few, size-first);
@@ -162,7 +163,7 @@ module _ (n : ℕ → Node) (i : ℕ) (o : List ℕ) (many : ℕ) (b t : List �
 
   pub take-flag : (so : Bool) (p : ℕ) (ok : Bool) (b' : List ℕ) → n i ≡ node.Flag so p → Marks b so p ok b' →
       Takes n i o many b t ok (i + 1) o many b' t
-  unfolding nodes holds Formed
+  unfolding nodes holds Named
   take-flag so p ok b' q m = record {
     on = omega arith;
     state = record { stack = st .stack; flags = m .size (st .flags); closed = st .closed };
@@ -178,12 +179,12 @@ module _ (n : ℕ → Node) (i : ℕ) (o : List ℕ) (many : ℕ) (b t : List �
         ));
     stops = λ bad us os w some. let f = first us some in let e = at-flag n i (f .u) so p q (laid-first w (f .u) (f .rest) (f .same) .0) in
         end-stops w (f .u) (f .rest) (f .same) b t
-        (λ a k y. m .none bad (subst Formed e (formed-first w (f .u) (f .rest) (f .same) .0)) a (k .flags) (sym (ap (λ x. holds x a) e) ∙ y));
+        (λ a k y. m .none bad (subst Named e (named-first w (f .u) (f .rest) (f .same) .0)) a (k .flags) (sym (ap (λ x. holds x a) e) ∙ y));
   }
 
   pub take-bound : (so : Bool) (x y v : ℕ) (ok : Bool) (t' : List ℕ) → n i ≡ node.Bound so x y v → Bounds t so x y v ok t' →
       Takes n i o many b t ok (i + 1) o many b t'
-  unfolding nodes holds Formed
+  unfolding nodes holds Named
   take-bound so x y v ok t' q m = record {
     on = omega arith;
     state = record { stack = st .stack; flags = st .flags; closed = m .closed };
@@ -196,7 +197,7 @@ module _ (n : ℕ → Node) (i : ℕ) (o : List ℕ) (many : ℕ) (b t : List �
     stops = λ bad us os w some. let f = first us some in let e = at-bound n i (f .u) so x y v q
         (laid-first w (f .u) (f .rest) (f .same) .0) in
         end-stops w (f .u) (f .rest) (f .same) b t
-        (λ a k z. m .none bad (subst Formed e (formed-first w (f .u) (f .rest) (f .same) .0)) a (k .numbers) (sym (ap (λ x. holds x a) e) ∙ z));
+        (λ a k z. m .none bad (subst Named e (named-first w (f .u) (f .rest) (f .same) .0)) a (k .numbers) (sym (ap (λ x. holds x a) e) ∙ z));
   }
 
   pub take-and : (v : Bool) (k s : ℕ) → n i ≡ node.Join v k s → v ≡ true → Takes n i o many b t true (i + 1) o many b t

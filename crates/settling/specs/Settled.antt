@@ -9,8 +9,8 @@ use lib.Dec.{eqb}
 use lib.IntN.{ℤ, pos}
 use lib.ListN.{length, getD}
 use Rattle.condition.specs.Limits.{lastBoolean, lastNumber}
-use Rattle.condition.specs.Meaning.{Assignment, value, met, all, any, Tree, join, Forest, none, count, holds, each, EndWithin, Formed, FormedAll, given}
-use Rattle.condition.specs.Satisfying.{Satisfiable, InRange}
+use Rattle.condition.specs.Meaning.{Assignment, value, met, all, any, Tree, join, Forest, none, count, holds, each, EndWithin, given}
+use Rattle.condition.specs.Satisfying.{Satisfiable, InRange, Named, NamedAll}
 use Rattle.differences.specs.Table.{Meets, Closed, tightest}
 use Rattle.nodes.specs.declared.Node.{Node}
 use Rattle.nodes.specs.Laid.{flagEnd, boundEnd, nodes, nodesAll, Laid, LaidAll}
@@ -48,7 +48,7 @@ pub record Bounds (t : List ℕ) (so : Bool) (x y w : ℕ) (ok : Bool) (t' : Lis
 pub record Or (u : Tree) : Type 0 where
   pub ts : Forest
   pub same : u ≡ join any ts
-  pub formed : FormedAll ts
+  pub named : NamedAll ts
 
 -- and it stands from node i on
 pub record Stands (u : Tree) (n : ℕ → Node) (i : ℕ) : Type 0 where
@@ -78,7 +78,7 @@ pub record State (o b t : List ℕ) : Type 0 where
 
 pub record Work (n : ℕ → Node) (i : ℕ) (us : Forest) (o : List ℕ) (many : ℕ) (os : List Tree) : Type 0 where
   pub laid : LaidAll us n i
-  pub formed : FormedAll us
+  pub named : NamedAll us
   pub waits : Waits os n o many
   pub near : i + nodesAll us ≤ 64
   pub few : bulk os + nodesAll us ≤ 64
@@ -161,4 +161,4 @@ Right u Nothing numbers = Satisfiable u → ⊥
 
 pub record Finds (n : ℕ → Node) (size : ℕ) (numbers : List ℤ) (r : Verdict) (numbers' : List ℤ) : Type 0 where
   pub kept : r ≡ Nothing → numbers' ≡ numbers
-  pub right : length numbers ≡ lastNumber → (u : Tree) → Laid u n 0 → nodes u ≡ size → size ≤ 64 → Formed u → Right u r numbers'
+  pub right : length numbers ≡ lastNumber → (u : Tree) → Laid u n 0 → nodes u ≡ size → size ≤ 64 → Named u → Right u r numbers'

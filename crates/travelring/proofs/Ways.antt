@@ -11,6 +11,7 @@ use borrow.Author.Tests.{eq-eqb, ne-eqb}
 use Rattle.condition.specs.Limits.{lastNumber}
 use Rattle.condition.specs.Meaning.{Tree, holds, given}
 use Rattle.condition.specs.Reading.{Read, tree, refusal, read}
+use Rattle.condition.proofs.Small.{formed-named}
 use Rattle.condition.proofs.Reading.{octets, read-written}
 use Rattle.cursor.specs.declared.Refusal.{Refusal}
 use Rattle.nodes.specs.Words.{nodeAt}
@@ -88,6 +89,6 @@ module _ (s : List ℕ) (numbers : List ℤ) where
         settles : (x : Read) → read s ≡ x → Holds ns (answer.Tree n) x → FindsRead x numbers (foundBy v) numbers'
         settles (tree t) same h =
             answered t v
-            (f .right fit t (h .0) (sym (h .1)) (omega (arith, h .2)) (read-written s t (octets s bytes) same .1 .formed))
+            (f .right fit t (h .0) (sym (h .1)) (omega (arith, h .2)) (formed-named t (read-written s t (octets s bytes) same .1 .formed)))
             (f .kept)
         settles (refusal m p) same h = absurd h

@@ -1,0 +1,2 @@
+-- The laws that the proof of the code uses.
+pub mod Right

@@ -1,0 +1,2 @@
+-- What the answer to a question promises.
+pub mod Answered

@@ -1,0 +1,2 @@
+-- The laws that the proof of the sweep uses.
+pub mod Stages

@@ -1,0 +1,2 @@
+-- What the sweep's code promises.
+pub mod Swept
