@@ -100,8 +100,8 @@ some-byte g n some =
 
 -- ---- with room for what was written
 
-pub put-then : (o o₁ o₂ u v : List ℕ) (a m b : ℕ) → length o₁ ≡ length o → m ≡ length o₁ - a → Put o o₁ u a → Put (midOf a m o₁) o₂ v b
-    → Put o (putMid a m o₁ o₂) (u ++ v) (a + b)
+pub put-then : (o o₁ o₂ u v : List ℕ) (a m b : ℕ) → length o₁ ≡ length o → m ≡ length o₁ - a → Put o o₁ u a →
+    Put (midOf a m o₁) o₂ v b → Put o (putMid a m o₁ o₂) (u ++ v) (a + b)
 put-then o o₁ o₂ u v a m b same whole first second =
     record {
       room = within o o₁ a m b same whole (first .room) (second .room);
