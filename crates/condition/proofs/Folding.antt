@@ -4,6 +4,7 @@ use Prim.Native.Nat.{ℕ, _+_, _≤_, max}
 use mathlib.Core.Path.{_≡_, refl, sym, ap, ap₂, _∙_}
 use mathlib.Core.Bool.{Bool, true, false, not}
 use native.Mathlib.Omega.{arith}
+use Rattle.condition.specs.Limits.{mostEnds}
 use Rattle.condition.specs.Meaning.{Assignment, Join, all, any, unit, joined, Tree, plain, leaf, join, Forest, none, more}
 use Rattle.condition.specs.Meaning.{holds, each, ends, endsAll, count, Formed, FormedAll, Within}
 use Rattle.condition.specs.Folding.{Left, decided, these, keep, dropConstant, drop, close, fold, foldAll, live, liveAll}
@@ -256,5 +257,15 @@ mutual
   foldAll-ends (more t ts) j w =
       omega (arith, drop-ends j (fold t) (foldAll ts j), fold-ends t (w .0), foldAll-ends ts j (w .1))
 
+-- a formed tree of at most m ends; within the limits m is 24
+pub record Inside (m : ℕ) (t : Tree) : Type 0 where
+  pub formed : Formed t
+  pub few : ends t ≤ m
+
+pub fold-inside : (m : ℕ) (t : Tree) → Inside m t → Inside m (fold t)
+fold-inside m t w = record { formed = fold-formed t (w .formed); few = omega (arith, fold-ends t (w .formed), w .few) }
+
 pub fold-within : (t : Tree) → Within t → Within (fold t)
-fold-within t w = record { formed = fold-formed t (w .formed); few = omega (arith, fold-ends t (w .formed), w .few) }
+fold-within t w =
+    let h = fold-inside mostEnds t (record { formed = w .formed; few = w .few }) in
+    record { formed = h .formed; few = h .few }

@@ -12,10 +12,10 @@ use Rattle.condition.specs.Meaning.{Tree, Forest, ends}
 use Rattle.condition.specs.Reading.{Reading, got, refused, then, numberFrom, checked, upTo, readCount, readEnd}
 use Rattle.condition.specs.Reading.{readJoin, readNode, readAll, readTree}
 
--- a reading of bytes that end at `end`; 8 isn't among its answers
+-- a reading of bytes that end at `end`; its refusals are 1 to 7
 abbrev pub Ended : {A : Type 0} → Reading A → ℕ → Type 0
 Ended (got x l at) end = at + length l ≡ end
-Ended (refused n place) end = (n ≤ 7) × (n ≡ 1 → place ≡ end)
+Ended (refused n place) end = (1 ≤ n) × (n ≤ 7) × (n ≡ 1 → place ≡ end)
 
 module _ (end : ℕ) where
   abbrev pub Ends : {A : Type 0} → (List ℕ → ℕ → Reading A) → Type 0

@@ -8,10 +8,10 @@ use lib.Dec.{ltb}
 use borrow.Table.Steps.{cases}
 use borrow.Author.Tests.{ltb-true, ltb-false}
 use Rattle.condition.specs.Meaning.{Tree, plain, leaf, join, Forest, none, more, ends, endsAll, count}
-use Rattle.condition.specs.Meaning.{EndWithin, Formed, FormedAll, Within}
+use Rattle.condition.specs.Meaning.{EndWithin, Formed, FormedAll}
 use Rattle.condition.specs.Folding.{fold, live, liveAll}
 use Rattle.condition.specs.Critical.{endAt, endIn, put, putIn}
-use Rattle.condition.proofs.Folding.{fold-live, fold-within}
+use Rattle.condition.proofs.Folding.{fold-live, Inside, fold-inside}
 
 -- the i-th end of a forest is in its first tree, of n ends, or in the rest
 pub split : {X : Type 0} (i n : ℕ) → (i < n → ltb i n ≡ true → X) → (n ≤ i → ltb i n ≡ false → X) → X
@@ -101,10 +101,10 @@ mutual
       (λ l e. rw e (endIn-within ts (i - live t) (omega arith) (w .1)))
 
 -- a tree after a cut
-pub cut-within : (t : Tree) (i : ℕ) (b : Bool) → Within t → Within (fold (put t i (plain b)))
+pub cut-inside : (m : ℕ) (t : Tree) (i : ℕ) (b : Bool) → Inside m t → Inside m (fold (put t i (plain b)))
 unfolding Formed
-cut-within t i b w =
-    fold-within (put t i (plain b))
+cut-inside m t i b w =
+    fold-inside m (put t i (plain b))
     (record { formed = put-formed t i (plain b) (w .formed) tt; few = omega (arith, put-ends t i b, w .few) })
 
 pub cut-live : (t : Tree) (i : ℕ) (b : Bool) → i < live t → live (fold (put t i (plain b))) < live t

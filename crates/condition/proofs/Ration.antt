@@ -9,11 +9,11 @@ use native.Mathlib.Nat.{mul-le-mul}
 use native.Mathlib.Omega.{arith}
 use borrow.Table.Steps.{cases}
 use borrow.Author.Tests.{leb-false}
-use Rattle.condition.specs.Meaning.{Tree, Within}
+use Rattle.condition.specs.Meaning.{Tree}
 use Rattle.condition.specs.Folding.{fold, live}
 use Rattle.condition.specs.Sweep.{Stage, stage, start, over, cut, on, answer, next, sweep, enoughFor}
-use Rattle.condition.proofs.Folding.{fold-within}
-use Rattle.condition.proofs.Putting.{cut-live, cut-within}
+use Rattle.condition.proofs.Folding.{Inside, fold-inside}
+use Rattle.condition.proofs.Putting.{cut-live, cut-inside}
 use Rattle.condition.proofs.Run.{keeps, enough, reports, finishes, larger, asked-le}
 
 -- questions asked of this sweep
@@ -86,16 +86,16 @@ module _ (decide : Tree → Bool) where
     unfolding sweep
     done-stays r q = larger over (next decide) r q (start (fold t))
 
-    pub sweep-within : (r : ℕ) → Within t → Within (sweep decide t r .last .tree)
+    pub sweep-inside : (m r : ℕ) → Inside m t → Inside m (sweep decide t r .last .tree)
     unfolding sweep
-    sweep-within r w = keeps over (next decide) (λ s. Within (s .tree)) step r (start (fold t)) (fold-within t w)
+    sweep-inside m r w = keeps over (next decide) (λ s. Inside m (s .tree)) step r (start (fold t)) (fold-inside m t w)
       where
-        goes-on : (u : Tree) (i : ℕ) (q : Bool) → Within u → Within (on u i q .tree)
+        goes-on : (u : Tree) (i : ℕ) (q : Bool) → Inside m u → Inside m (on u i q .tree)
         goes-on u i false k = k
         goes-on u i true k = k
 
-        step : (s : Stage) → over s ≡ false → Within (s .tree) → Within (next decide s .tree)
+        step : (s : Stage) → over s ≡ false → Inside m (s .tree) → Inside m (next decide s .tree)
         step s o k =
-            each-next (λ u. Within (u .tree)) s o
-            (λ h e. cut-within (s .tree) (s .at) (not (s .second)) k)
+            each-next (λ u. Inside m (u .tree)) s o
+            (λ h e. cut-inside m (s .tree) (s .at) (not (s .second)) k)
             (λ h e. goes-on (s .tree) (s .at) (s .second) k)

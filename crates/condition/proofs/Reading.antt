@@ -40,6 +40,18 @@ pub written-read : (t : Tree) → Within t → read (bytes t) ≡ tree t
 unfolding read
 written-read t w = ap whole (rw append-nil at (tree-read t mostEnds 0 (w .formed) (omega arith) (omega arith) [] 0))
 
+-- no tree's bytes begin with another's
+pub one-start : (t u : Tree) (l l' : List ℕ) → Within t → Within u → bytes t ++ l ≡ bytes u ++ l' → t ≡ u
+one-start t u l l' wt wu e =
+    let h = tree-read t mostEnds 0 (wt .formed) (omega (arith, wt .few)) (omega arith) l 0 in
+    let k = tree-read u mostEnds 0 (wu .formed) (omega (arith, wu .few)) (omega arith) l' 0 in
+    let same = sym h ∙ ap (λ s. readTree mostEnds s 0 0) e ∙ k in
+    ap (λ (r : Reading Tree). gotOf r) same
+  where
+    gotOf : Reading Tree → Tree
+    gotOf (got x rest at) = x
+    gotOf (refused n p) = t
+
 -- a list whose every element is a byte
 pub octets : (s : List ℕ) → ((i : ℕ) → getD s i 0 < 256) → Octets s
 unfolding Octets
@@ -83,28 +95,44 @@ mutual
   all-octets none = octets-none
   all-octets (more t ts) = octets-both (bytes t) (bytesAll ts) (bytes-octets t) (all-octets ts)
 
-whole-ended : (r : Reading Tree) (end n p : ℕ) → Ended r end → whole r ≡ refusal n p → (n ≡ 1 → p ≡ end) × (n ≡ 8 → p < end)
-whole-ended (got t [] at) end n p h e = let z : _≡_ {A = ℕ} 0 1 = cc in absurd (omega arith)
-whole-ended (got t (b ∷ l) at) end n p h e =
+-- what is known of a refusal of bytes of which there are `end`
+record Known (end n p : ℕ) : Type 0 where
+  least : 1 ≤ n
+  most : n ≤ 8
+  one : n ≡ 1 → p ≡ end
+  eight : n ≡ 8 → p < end
+
+whole-known : (r : Reading Tree) (end n p : ℕ) → Ended r end → whole r ≡ refusal n p → Known end n p
+whole-known (got t [] at) end n p h e = let z : _≡_ {A = ℕ} 0 1 = cc in absurd (omega arith)
+whole-known (got t (b ∷ l) at) end n p h e =
     let answer : n ≡ 8 = cc in
     let place : p ≡ at = cc in
-    omega arith
-whole-ended (refused m q) end n p h e =
+    record { least = omega arith; most = omega arith; one = λ z. absurd (omega arith); eight = λ z. omega arith }
+whole-known (refused m q) end n p h e =
     let answer : n ≡ m = cc in
     let place : p ≡ q = cc in
-    (λ one. place ∙ h .1 (omega arith), omega arith)
+    record {
+      least = omega (arith, h .0);
+      most = omega (arith, h .1);
+      one = λ z. place ∙ h .2 (omega arith);
+      eight = λ z. absurd (omega (arith, h .1));
+    }
 
-read-ended : (s : List ℕ) (n p : ℕ) → read s ≡ refusal n p → (n ≡ 1 → p ≡ length s) × (n ≡ 8 → p < length s)
+known : (s : List ℕ) (n p : ℕ) → read s ≡ refusal n p → Known (length s) n p
 unfolding read
-read-ended s n p e = whole-ended (readTree mostEnds s 0 0) (length s) n p (tree-ends (length s) mostEnds 0 s 0 (omega arith)) e
+known s n p e = whole-known (readTree mostEnds s 0 0) (length s) n p (tree-ends (length s) mostEnds 0 s 0 (omega arith)) e
+
+-- reading refuses with 1 to 8
+pub refusals : (s : List ℕ) (n p : ℕ) → read s ≡ refusal n p → (1 ≤ n) × (n ≤ 8)
+refusals s n p e = (known s n p e .least, known s n p e .most)
 
 -- answer 1: the place is the input length
 pub ended-at-end : (s : List ℕ) (p : ℕ) → read s ≡ refusal 1 p → p ≡ length s
-ended-at-end s p e = read-ended s 1 p e .0 refl
+ended-at-end s p e = known s 1 p e .one refl
 
 -- answer 8: a byte stands at the place
 pub after-place : (s : List ℕ) (p : ℕ) → read s ≡ refusal 8 p → p < length s
-after-place s p e = read-ended s 8 p e .1 refl
+after-place s p e = known s 8 p e .eight refl
 
 pub number-length : (g n : ℕ) → length (groupsOf g n) ≤ g
 unfolding groupsOf

@@ -4,14 +4,15 @@ use mathlib.Core.Path.{_≡_, sym, ap, _∙_}
 use mathlib.Core.Bool.{true, false, true≢false}
 use mathlib.Core.Logic.{_↔_}
 use native.Mathlib.Omega.{arith}
-use Rattle.condition.specs.Meaning.{Assignment, Tree, plain, holds, Within}
+use Rattle.condition.specs.Limits.{mostEnds}
+use Rattle.condition.specs.Meaning.{Assignment, Tree, plain, holds, ends, Formed, Within}
 use Rattle.condition.specs.Satisfying.{Satisfiable}
 use Rattle.condition.specs.Folding.{fold, live, Folded}
 use Rattle.condition.specs.Critical.{Firm}
 use Rattle.condition.specs.Deciding.{sat}
 use Rattle.condition.specs.Sweep.{reported, trimmed, needs}
 use Rattle.condition.proofs.Folding.{fold-live}
-use Rattle.condition.proofs.Ration.{most-le, asked-min, done-if, done-stays, sweep-within}
+use Rattle.condition.proofs.Ration.{most-le, asked-min, done-if, done-stays, sweep-inside}
 use Rattle.condition.proofs.Sweep.{sound-sweep, sweep-firm, firm-false, firm-true}
 use Rattle.condition.proofs.Deciding.{sat-is}
 
@@ -46,7 +47,14 @@ module _ (t : Tree) where
 
   pub trimmed-within : (r : ℕ) → Within t → Within (trimmed t r .tree)
   unfolding trimmed
-  trimmed-within = sweep-within sat t
+  trimmed-within r w =
+      let h = sweep-inside sat t mostEnds r (record { formed = w .formed; few = w .few }) in
+      record { formed = h .formed; few = h .few }
+
+  -- constants counted too
+  pub trimmed-ends : (r : ℕ) → Formed t → ends (trimmed t r .tree) ≤ ends t
+  unfolding trimmed
+  trimmed-ends r f = sweep-inside sat t (ends t) r (record { formed = f; few = omega arith }) .few
 
   pub trimmed-firm : (r : ℕ) → trimmed t r .finished ≡ true → (i : ℕ) → i < live (trimmed t r .tree) → Firm (trimmed t r .tree) i
   unfolding trimmed

@@ -1,5 +1,5 @@
 -- A refusal is read back off its number and place, so an answer that gives both gives the refusal.
-use Prim.Native.Nat.{ℕ, _≤_}
+use Prim.Native.Nat.{ℕ, zero, suc, _+_, _≤_}
 use mathlib.Core.Path.{_≡_, refl}
 use mathlib.Core.Bool.{cond}
 use native.Mathlib.Omega.{arith}
@@ -31,3 +31,17 @@ back (Name p) = record { least = omega arith; most = omega arith; same = refl }
 back (Bound p) = record { least = omega arith; most = omega arith; same = refl }
 back (Crowd p) = record { least = omega arith; most = omega arith; same = refl }
 back (After p) = record { least = omega arith; most = omega arith; same = refl }
+
+-- and each number from 1 to 8 with each place is some refusal's
+pub there : (n p : ℕ) → (1 ≤ n) × (n ≤ 8) → (answerOf (refusalOf n p) ≡ n) × (placeOf (refusalOf n p) ≡ p)
+unfolding refusalOf
+there zero p h = absurd (omega (arith, h .0))
+there (suc zero) p h = (refl, refl)
+there (suc (suc zero)) p h = (refl, refl)
+there (suc (suc (suc zero))) p h = (refl, refl)
+there (suc (suc (suc (suc zero)))) p h = (refl, refl)
+there (suc (suc (suc (suc (suc zero))))) p h = (refl, refl)
+there (suc (suc (suc (suc (suc (suc zero)))))) p h = (refl, refl)
+there (suc (suc (suc (suc (suc (suc (suc zero))))))) p h = (refl, refl)
+there (suc (suc (suc (suc (suc (suc (suc (suc zero)))))))) p h = (refl, refl)
+there (suc (suc (suc (suc (suc (suc (suc (suc (suc n))))))))) p h = absurd (omega (arith, h .1))

@@ -1,4 +1,5 @@
 -- What each way out of the public calls shows, and that no choice is left.
 pub mod Once
 mod Ways
+mod Trims
 mod Reporting

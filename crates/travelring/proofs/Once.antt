@@ -22,6 +22,9 @@ use Rattle.travelring.specs.Judging.{Judgement, judged, told}
 use Rattle.travelring.specs.declared.Found.{Found}
 use Rattle.travelring.specs.declared.Found.the-variants as found
 use Rattle.travelring.specs.Finding.{Finding, toldFound, Refuses, FindsTree, FindsRead, Finds}
+use Rattle.travelring.specs.declared.Trimmed.{Trimmed}
+use Rattle.travelring.specs.declared.Trimmed.the-variants as trimmed
+use Rattle.travelring.specs.Trimming.{Trimming, toldTrimmed, Trims}
 
 -- ---- judge
 
@@ -110,3 +113,31 @@ find-once s numbers r numbers₁ r' numbers₂ h h' =
       | yes e ↦ read-alike (read s) numbers r numbers₁ r' numbers₂ (h .fit e) (h' .fit e)
       | no ne ↦ refuses-alike 11 0 numbers r numbers₁ r' numbers₂ (h .unfit ne) (h' .unfit ne)
     ]
+
+-- ---- trim
+
+trimmedOf : Trimming → Trimmed
+trimmedOf t =
+    cond (eqb (t .answer) 0) (trimmed.Finished (t .questions) (t .ends))
+    (cond (eqb (t .answer) 10) (trimmed.Stopped (t .questions) (t .ends))
+    (cond (eqb (t .answer) 9) (trimmed.Long (t .place)) (trimmed.Refused (refusalOf (t .answer) (t .place)))))
+
+trimmed-back : (r : Trimmed) → trimmedOf (toldTrimmed r) ≡ r
+unfolding trimmedOf
+trimmed-back (trimmed.Finished asked ends) = refl
+trimmed-back (trimmed.Stopped asked ends) = refl
+trimmed-back (trimmed.Refused why) =
+    let h = back why in
+    simp (
+      ne-eqb (answerOf why) 0 (λ e. omega (arith, h .least)),
+      ne-eqb (answerOf why) 10 (λ e. omega (arith, h .most)),
+      ne-eqb (answerOf why) 9 (λ e. omega (arith, h .most)),
+    )
+    (ap trimmed.Refused (h .same))
+trimmed-back (trimmed.Long needed) = refl
+
+-- trim's outcome is one, the lent output with it
+pub trim-once : (s : List ℕ) (ration : ℕ) (out : List ℕ) (r : Trimmed) (out₁ : List ℕ) (r' : Trimmed) (out₂ : List ℕ) →
+    Trims s ration out r out₁ → Trims s ration out r' out₂ → (r ≡ r') × (out₁ ≡ out₂)
+trim-once s ration out r out₁ r' out₂ h h' =
+    (sym (trimmed-back r) ∙ ap trimmedOf (h .told ∙ sym (h' .told)) ∙ trimmed-back r', h .lent ∙ sym (h' .lent))

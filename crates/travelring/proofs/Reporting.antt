@@ -1,16 +1,19 @@
--- A report follows what the call answered: its three numbers are those of document 01 for the enum's case.
+-- A report follows what the call answered: its numbers are those of document 01 for the enum's case.
 use Prim.Native.Nat.{ℕ}
 use mathlib.Core.Path.{_≡_, ap, ap₂, _∙_}
 use mathlib.Core.List.{List}
 use mathlib.Core.Bool.{cond}
 use lib.IntN.{ℤ}
-use lib.ListN.{set}
+use lib.ListN.{length, set}
 use Rattle.travelring.specs.declared.Judged.{Judged}
 use Rattle.travelring.specs.declared.Found.{Found}
+use Rattle.travelring.specs.declared.Trimmed.{Trimmed}
 use Rattle.travelring.specs.declared.boundary.Said.{Said}
+use Rattle.travelring.specs.declared.boundary.SaidTrimmed.{SaidTrimmed}
 use Rattle.travelring.specs.Judging.{judged, told}
 use Rattle.travelring.specs.Finding.{toldFound, Finds}
-use Rattle.travelring.specs.Reports.{Reports, ReportsJudged, ReportsFound, saidJudged, saidFound}
+use Rattle.travelring.specs.Trimming.{outcome, Trims}
+use Rattle.travelring.specs.Reports.{Reports, ReportsJudged, ReportsFound, ReportsTrimmed, saidJudged, saidFound, saidTrimmed}
 
 -- three numbers, two of them written
 reports : (said : Said) (answer place value : ℕ) → said .0 ≡ answer → said .1 ≡ place → said .2 ≡ value → (report : List ℕ) →
@@ -37,3 +40,13 @@ find-reports s numbers numbers' report r said f q = record {
   reports = reports said (toldFound r .answer) (toldFound r .place) (toldFound r .flags) (ap (λ x. x .0) q) (ap (λ x. x .1) q)
       (ap (λ x. x .2) q) report;
 }
+
+pub trim-reports : (s : List ℕ) (ration : ℕ) (out out' report : List ℕ) (r : Trimmed) (said : SaidTrimmed) →
+    Trims s ration out r out' → said ≡ saidTrimmed r →
+    ReportsTrimmed s ration out out' (said .0) report (set (set (set report 0 (said .1)) 1 (said .2)) 2 (said .3))
+trim-reports s ration out out' report r said h q =
+    let e = h .told in
+    let place = ap (λ x. x .1) q ∙ ap (λ x. x .place) e in
+    let questions = ap (λ x. x .2) q ∙ ap (λ x. x .questions) e in
+    let ends = ap (λ x. x .3) q ∙ ap (λ x. x .ends) e in
+    record { answered = ap (λ x. x .0) q ∙ ap (λ x. x .answer) e; written = simp (place, questions, ends); lent = h .lent }

@@ -1,4 +1,5 @@
 -- What the public calls answer.
 pub mod Judging
 pub mod Finding
+pub mod Trimming
 pub mod Reports

@@ -1,14 +1,19 @@
-// The C boundary. Each call returns document 01's number and writes its report, a place and a value, in every answer.
+// The C boundary. Each call returns document 01's number and writes its report, a place and what comes with it, in every answer.
 use crate::Found;
 use crate::Judged;
+use crate::Trimmed;
 use cursor::Refusal;
 ghost use mathlib.Core.Path.{_≡_};
 ghost use mathlib.Core.Bool.{cond};
 ghost use Rattle.travelring.specs.Judging.{judged};
-ghost use Rattle.travelring.specs.Reports.{ReportsJudged, ReportsFound, saidRefusal, saidJudged, saidFound};
+ghost use Rattle.travelring.specs.Reports.{ReportsJudged, ReportsFound, ReportsTrimmed};
+ghost use Rattle.travelring.specs.Reports.{saidRefusal, saidJudged, saidFound, saidTrimmed};
 
 // An answer's number, its place, and what comes with it.
 pub struct Said(pub u32, pub u64, pub u64);
+
+// An answer of trim: its number, its place, the questions asked and the ends of the result.
+pub struct SaidTrimmed(pub u32, pub u64, pub u64, pub u64);
 
 fn said_refusal(why: Refusal) -> Said
     ensures { λ r. ⌜ r ≡ saidRefusal why ⌝ }
@@ -52,6 +57,20 @@ fn said_found(found: Found) -> Said
     }
 }
 
+fn said_trimmed(trimmed: Trimmed) -> SaidTrimmed
+    ensures { λ r. ⌜ r ≡ saidTrimmed trimmed ⌝ }
+{
+    match trimmed {
+        Trimmed::Finished(asked, ends) => SaidTrimmed(0, 0, asked as u64, ends as u64),
+        Trimmed::Stopped(asked, ends) => SaidTrimmed(10, 0, asked as u64, ends as u64),
+        Trimmed::Refused(why) => {
+            let said = said_refusal(why);
+            SaidTrimmed(said.0, said.1, 0, 0)
+        }
+        Trimmed::Long(needed) => SaidTrimmed(9, needed as u64, 0, 0),
+    }
+}
+
 // Judges the condition; the report is place and value.
 #[no_mangle]
 pub extern "C" fn travelring_judge(
@@ -76,5 +95,22 @@ pub extern "C" fn travelring_find(tree: &[u8], numbers: &mut [i32], report: &mut
     let said = said_found(crate::find(tree, numbers));
     report[0] = said.1;
     report[1] = said.2;
+    said.0
+}
+
+// Trims the condition; the report is place, questions asked and ends of the result.
+#[no_mangle]
+pub extern "C" fn travelring_trim(
+    tree: &[u8],
+    ration: u32,
+    out: &mut [u8],
+    report: &mut [u64; 3],
+) -> u32
+    ensures { λ r. ⌜ ReportsTrimmed (now (tree .entry)) ration (now (out .entry)) (now (out .exit)) r (now (report .entry)) (now (report .exit)) ⌝ }
+{
+    let said = said_trimmed(crate::trim(tree, ration, out));
+    report[0] = said.1;
+    report[1] = said.2;
+    report[2] = said.3;
     said.0
 }

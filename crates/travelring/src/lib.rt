@@ -8,6 +8,7 @@ use settling::Verdict;
 ghost use mathlib.Core.Path.{_≡_};
 ghost use Rattle.travelring.specs.Judging.{told, judged};
 ghost use Rattle.travelring.specs.Finding.{Finds, foundBy};
+ghost use Rattle.travelring.specs.Trimming.{Trims, endedBy};
 
 // Judge's answer: the value, a refusal of the bytes, or numbers that aren't 15.
 pub enum Judged {
@@ -23,6 +24,15 @@ pub enum Found {
     Nothing,
     Refused(Refusal),
     Unfit,
+}
+
+// Trim's answer: the work ended, or the ration was used up first, with the questions asked and the ends of the result, which is
+// written; a refusal of the bytes; or an output too short for the result, and the bytes needed.
+pub enum Trimmed {
+    Finished(u32, u32),
+    Stopped(u32, u32),
+    Refused(Refusal),
+    Long(usize),
 }
 
 // Whether the condition written in tree is true where boolean p is the bit of weight 2^p of flags, and number x is numbers[x - 1].
@@ -67,5 +77,41 @@ fn shown(verdict: Verdict) -> Found
     match verdict {
         Verdict::Found(bits) => Found::Shown(bits),
         Verdict::Nothing => Found::Nothing,
+    }
+}
+
+fn ended(finished: bool, asked: u32, ends: u32) -> Trimmed
+    ensures { λ r. ⌜ r ≡ endedBy finished asked ends ⌝ }
+{
+    if finished {
+        return Trimmed::Finished(asked, ends);
+    }
+    Trimmed::Stopped(asked, ends)
+}
+
+// Trims the condition written in tree with at most `ration` questions: the result is written from the output's start.
+pub fn trim(tree: &[u8], ration: u32, out: &mut [u8]) -> Trimmed
+    ensures { λ r. ⌜ Trims (now (tree .entry)) ration (now (out .entry)) r (now (out .exit)) ⌝ }
+{
+    let held = reading::read(tree);
+    let answer = held.answer;
+    match answer {
+        Answer::Refused(why) => Trimmed::Refused(why),
+        Answer::Tree(n) => {
+            let ns = held.nodes;
+            let swept = sweeping::sweep(&ns, n, ration);
+            let result = swept.tree;
+            let size = swept.size;
+            let room = out.len();
+            let needed = writing::write(&result, size, out);
+            if room < needed {
+                return Trimmed::Long(needed);
+            }
+            ended(
+                swept.finished,
+                swept.asked,
+                asking::live(&result, size) as u32,
+            )
+        }
     }
 }

@@ -1,0 +1,22 @@
+-- `travelring_trim` meets its contract: what trim answers, as four numbers, three of them in the report.
+use Rattle.travelring.proofs.Reporting.{trim-reports}
+use borrow.Author.Needs.{needs}
+use Rattle.travelring.proofs.boundary.travelring_trim.Statement.{statement}
+use Rattle.travelring.proofs.boundary.travelring_trim.Tie as tie
+
+returns : tie.Need-returns
+returns c =
+    let trim = c .before .before .before .trim in
+    trim-reports _ _ _ _ _ _ _ (trim .ensures) (c .said-trimmed .ensures)
+
+pub travelring-trim-spec : {M : Type 1} → statement M
+travelring-trim-spec =
+    tie.close
+    (tie.spec
+    (λ c κs. search needs)
+    (λ c κs. search needs)
+    (λ c. search needs)
+    (λ c. search needs)
+    (λ c. search needs)
+    (λ c. search needs)
+    returns)
