@@ -5,13 +5,14 @@ use typed::print::print;
 use typed::print::print_answer;
 use typed::print::print_refusal;
 use typed::print::print_stuck;
+use typed::text::LARGEST_U32;
 use typed::text::MOST_BYTES;
 use typed::text::MOST_NUMBERS;
 use typed::text::Read;
 use typed::text::is_heading;
 use typed::text::line_end;
-use typed::text::read_flags;
 use typed::text::read_numbers;
+use typed::text::read_part;
 use typed::text::read_tree;
 
 fn print_value(value: bool) {
@@ -50,7 +51,7 @@ fn answer_under(line: &[u8], at: usize, tree: &[u8], flags: u32) {
 
 // From a line's boolean bits on, its condition read.
 fn answer_tree(line: &[u8], at: usize, tree: &[u8]) {
-    match read_flags(line, at) {
+    match read_part(line, at, LARGEST_U32) {
         Read::Value(flags, next) => answer_under(line, next, tree, flags as u32),
         Read::Stuck(place) => print_stuck(place),
     }

@@ -11,6 +11,9 @@ pub const FIT_NUMBERS: usize = LAST_NUMBER as usize;
 
 pub const MOST_NUMBERS: usize = FIT_NUMBERS + 1;
 
+// The largest u32: boolean bits, or a ration.
+pub const LARGEST_U32: usize = 4294967295;
+
 // What a part of a line came to: a value and where the line goes on; or the first character that cannot be continued.
 pub enum Read {
     Value(usize, usize),
@@ -144,22 +147,23 @@ fn ends(line: &[u8], at: usize, mark: u8) -> bool {
     true
 }
 
-// The boolean bits, from where the condition's bytes end: at the line's end they are 0, else a `/` stands there.
-pub fn read_flags(line: &[u8], at: usize) -> Read
-    ensures { λ r. ⌜ AtMost 4294967295 r ⌝ }
+// A decimal of at most `most`, from where the part before it ends: at the line's end it is 0, else a `/` stands there.
+pub fn read_part(line: &[u8], at: usize, most: usize) -> Read
+    requires { ⌜ most ≤ 4294967295 ⌝ }
+    ensures { λ r. ⌜ AtMost most r ⌝ }
 {
     if line.len() <= at {
         return Read::Value(0, at);
     }
-    let bits = read_decimal(line, skip_spaces(line, at + 1), 4294967295);
-    let Read::Value(flags, next) = bits else {
-        return bits;
+    let part = read_decimal(line, skip_spaces(line, at + 1), most);
+    let Read::Value(value, next) = part else {
+        return part;
     };
     let end = skip_spaces(line, next);
     if !ends(line, end, b'/') {
         return Read::Stuck(end);
     }
-    Read::Value(flags, end)
+    Read::Value(value, end)
 }
 
 fn signed(n: usize) -> i32

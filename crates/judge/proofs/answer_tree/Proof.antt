@@ -6,8 +6,8 @@ use Rattle.judge.proofs.answer_tree.Tie as tie
 
 cast-answer-under : tie.Need-cast-answer-under
 cast-answer-under c =
-    let read-flags = c .before .before .before .read-flags in
-    omega (arith, rw (c .before .flags .given .1) at (read-flags .ensures))
+    let read-part = c .before .before .before .read-part in
+    omega (arith, rw (c .before .flags .given .1) at (read-part .ensures))
 
 pub answer-tree-spec : {M : Type 1} → statement M
 answer-tree-spec =

@@ -1,16 +1,16 @@
--- `typed::text::read_flags` meets its contract: the bits are the decimal that was read, at most 4,294,967,295.
+-- `typed::text::read_part` meets its contract: the value is the decimal that was read, at most `most`.
 use borrow.Author.Needs.{needs}
-use Rattle.typed.proofs.text.read_flags.Statement.{statement}
-use Rattle.typed.proofs.text.read_flags.Tie as tie
+use Rattle.typed.proofs.text.read_part.Statement.{statement}
+use Rattle.typed.proofs.text.read_part.Tie as tie
 
 returns-4 : tie.Need-returns-4
 returns-4 c =
-    let bits = c .before .before .before .before .bits in
+    let part = c .before .before .before .before .part in
     let read-decimal = c .before .before .before .before .before .before .read-decimal in
-    rw (bits .given .1) at (read-decimal .ensures)
+    rw (part .given .1) at (read-decimal .ensures)
 
-pub read-flags-spec : {M : Type 1} → statement M
-read-flags-spec =
+pub read-part-spec : {M : Type 1} → statement M
+read-part-spec =
     tie.close
     (tie.spec
     (λ c. search needs)
