@@ -1,0 +1,1 @@
+// The demands as theorems over the definitions: specs/ states them, proofs/ proves them. No function is declared here.
