@@ -9,7 +9,7 @@ use native.Mathlib.Omega.{arith}
 use native.Mathlib.Decide.{ℕ-discrete}
 use lib.Dec.{eqb}
 use lib.IntN.{ℤ}
-use lib.ListN.{length}
+use lib.ListN.{length, set}
 use borrow.Author.Tests.{ne-eqb}
 use Rattle.condition.specs.Limits.{lastNumber}
 use Rattle.condition.specs.Meaning.{Tree, given}
@@ -25,6 +25,7 @@ use Rattle.travelring.specs.Finding.{Finding, toldFound, Refuses, FindsT
 use Rattle.travelring.specs.declared.Trimmed.{Trimmed}
 use Rattle.travelring.specs.declared.Trimmed.the-variants as trimmed
 use Rattle.travelring.specs.Trimming.{Trimming, toldTrimmed, Trims}
+use Rattle.travelring.specs.Reports.{Reports, ReportsJudged, ReportsFound, ReportsTrimmed}
 
 -- ---- judge
 
@@ -141,3 +142,34 @@ pub trim-once : (s : List ℕ) (ration : ℕ) (out : List ℕ) (r : Trimmed) (ou
     Trims s ration out r out₁ → Trims s ration out r' out₂ → (r ≡ r') × (out₁ ≡ out₂)
 trim-once s ration out r out₁ r' out₂ h h' =
     (sym (trimmed-back r) ∙ ap trimmedOf (h .told ∙ sym (h' .told)) ∙ trimmed-back r', h .lent ∙ sym (h' .lent))
+
+-- ---- the same across the C boundary
+
+reports-once : (answer place value r r' : ℕ) (report report₁ report₂ : List ℕ) →
+    Reports answer place value r report report₁ → Reports answer place value r' report report₂ → (r ≡ r') × (report₁ ≡ report₂)
+reports-once answer place value r r' report report₁ report₂ h h' = (h .answered ∙ sym (h' .answered), h .written ∙ sym (h' .written))
+
+pub judge-once-in-c : (s : List ℕ) (flags : ℕ) (numbers : List ℤ) (r r' : ℕ) (report report₁ report₂ : List ℕ) →
+    ReportsJudged (judged s flags numbers) r report report₁ → ReportsJudged (judged s flags numbers) r' report report₂ →
+    (r ≡ r') × (report₁ ≡ report₂)
+judge-once-in-c s flags numbers = reports-once _ _ _
+
+pub trim-once-in-c : (s : List ℕ) (ration : ℕ) (out out₁ out₂ : List ℕ) (r r' : ℕ) (report report₁ report₂ : List ℕ) →
+    ReportsTrimmed s ration out out₁ r report report₁ → ReportsTrimmed s ration out out₂ r' report report₂ →
+    (r ≡ r') × (report₁ ≡ report₂) × (out₁ ≡ out₂)
+trim-once-in-c s ration out out₁ out₂ r r' report report₁ report₂ h h' =
+    (h .answered ∙ sym (h' .answered), h .written ∙ sym (h' .written), h .lent ∙ sym (h' .lent))
+
+-- find's, the assignment shown aside
+pub find-once-in-c : (s : List ℕ) (numbers numbers₁ numbers₂ : List ℤ) (r r' : ℕ) (report report₁ report₂ : List ℕ) →
+    ReportsFound s numbers numbers₁ r report report₁ → ReportsFound s numbers numbers₂ r' report report₂ →
+    (r ≡ r') × ((r ≡ 0 → ⊥) → (report₁ ≡ report₂) × (numbers₁ ≡ numbers₂))
+find-once-in-c s numbers numbers₁ numbers₂ r r' report report₁ report₂ h h' =
+    let alike = find-once s numbers (h .found) numbers₁ (h' .found) numbers₂ (h .finds) (h' .finds) in
+    let w = h .reports in
+    let w' = h' .reports in (
+      w .answered ∙ alike .answer ∙ sym (w' .answered),
+      λ z.
+          let rest = alike .rest (λ e. z (w .answered ∙ e)) in
+          (w .written ∙ ap (λ f. set (set report 0 (toldFound f .place)) 1 (toldFound f .flags)) (rest .0) ∙ sym (w' .written), rest .1),
+    )
