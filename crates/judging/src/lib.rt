@@ -16,7 +16,7 @@ ghost use Rattle.nodes.specs.Laid.{shifted, joinOf, nodes, Laid};
 ghost use Rattle.judging.specs.Judged.{Judged, JudgedAll};
 
 // Boolean p is the bit of weight 2^p: past the last of 32 bits there is none.
-fn flag(flags: u32, p: u32) -> bool
+pub fn flag(flags: u32, p: u32) -> bool
     ensures { λ r. ⌜ ((numbers : List ℤ) → r ≡ met (is p) (given flags numbers)) ⌝ }
 {
     if p < 32 {
@@ -47,7 +47,7 @@ fn difference(a: u32, b: u32) -> i64
 }
 
 // x - y <= c, where c is kept as w.
-fn at_most(numbers: &[i32], x: u32, y: u32, w: u32) -> bool
+pub fn at_most(numbers: &[i32], x: u32, y: u32, w: u32) -> bool
     ensures { λ r. ⌜ ((flags : ℕ) → r ≡ met (atMost x y (shifted w)) (given flags (now (numbers .entry)))) ⌝ }
 {
     let a = number(numbers, x);
@@ -57,14 +57,14 @@ fn at_most(numbers: &[i32], x: u32, y: u32, w: u32) -> bool
 }
 
 // An end, or (false) its negation.
-fn turned(so: bool, v: bool) -> bool
+pub fn turned(so: bool, v: bool) -> bool
     ensures { λ r. ⌜ r ≡ cond so v (not v) ⌝ }
 {
     if so { v } else { !v }
 }
 
 // `and` (true) or `or` of a child and the children after it.
-fn both(all: bool, v: bool, u: bool) -> bool
+pub fn both(all: bool, v: bool, u: bool) -> bool
     ensures { λ r. ⌜ r ≡ joined (joinOf all) v u ⌝ }
 {
     if all { v && u } else { v || u }

@@ -1,108 +1,85 @@
 -- `sweeping::sweep` meets its contract: each turn of the loop is a step of the definition's machine (Stages.antt).
 use Prim.Native.Nat.{_-_}
-use mathlib.Core.Path.{refl, sym}
+use mathlib.Core.Path.{refl}
 use mathlib.Core.Logic.{inl, inr}
 use native.Mathlib.Omega.{arith}
 use borrow.Author.Needs.{needs}
+use borrow.Author.Tests.{ltb-true, ltb-false}
 use Rattle.nodes.specs.Words.{nodeAt}
-use Rattle.sweeping.proofs.Stages.{Goes, begins, over-now, used-up, yes, no, moved, stayed}
+use Rattle.sweeping.proofs.Stages.{Goes, nothing, begins, goes-on, cuts, ended}
 use Rattle.sweeping.proofs.sweep.Statement.{statement}
 use Rattle.sweeping.proofs.sweep.Tie as tie
 
 abbrev Inv-loop : tie.InvT-loop
-Inv-loop ns n ration tree₀ size₀ at₀ second₀ asked₀ tree size at second asked = Goes (nodeAt ns) n ration tree size at second asked
+Inv-loop ns n ration tree₀ size₀ end₀ bits₀ numbers₀ known₀ reply₀ q₀ asked₀ tree size end bits numbers known reply q asked =
+    Goes (nodeAt ns) n ration tree size end bits numbers known (reply .many) q asked
 
 abbrev μ-loop : tie.MeasureT-loop
-μ-loop ns n ration tree₀ size₀ at₀ second₀ asked₀ tree size at second asked = ration - asked
-
-slice-aggregate-fold : tie.Need-slice-aggregate-fold Inv-loop μ-loop
-slice-aggregate-fold c = search needs
-
-fold-requires : tie.Need-fold-requires Inv-loop μ-loop
-fold-requires c κs = search needs
+μ-loop ns n ration tree₀ size₀ end₀ bits₀ numbers₀ known₀ reply₀ q₀ asked₀ tree size end bits numbers known reply q asked =
+    ration - asked
 
 loop-holds : tie.Need-loop-holds Inv-loop μ-loop
-loop-holds c = begins _ _ _ _ _ _ (c .tree2 .given) (omega arith) (c .before .fold .ensures)
-
-slice-aggregate-live : tie.Need-slice-aggregate-live Inv-loop μ-loop
-slice-aggregate-live c = search needs
-
-live-requires : tie.Need-live-requires Inv-loop μ-loop
-live-requires c κs = search needs
-
-returns : tie.Need-returns Inv-loop μ-loop
-returns c =
-    let loop = c .before .before .before .before .loop in
-    over-now _ _ _ _ _ _ _ _ (loop .inv) _ (c .before .live .ensures) (c .if1 .taken)
-
-slice-aggregate-answer : tie.Need-slice-aggregate-answer Inv-loop μ-loop
-slice-aggregate-answer c = search needs
+loop-holds c =
+    let tree2 = c .before .before .before .tree2 in
+    let fold = c .before .before .before .before .fold in
+    begins (tree2 .given) (omega arith) (c .before .live .ensures) refl
+    (record { bits-long = refl; numbers-long = refl; known-long = refl; few = c .none .ensures }) (λ t. nothing t 128)
+    (fold .ensures)
 
 answer-requires : tie.Need-answer-requires Inv-loop μ-loop
-answer-requires c κs = search needs
-
-add-asked : tie.Need-add-asked Inv-loop μ-loop
-add-asked c = omega arith
-
-slice-aggregate-fold-2 : tie.Need-slice-aggregate-fold-2 Inv-loop μ-loop
-slice-aggregate-fold-2 c = search needs
+answer-requires c κs =
+    let loop = c .before .before .before .before .before .before .loop in
+    let if1 = c .before .before .before .before .if1 in
+    (omega (arith, loop .inv .near, ltb-true (loop .q) (loop .end) (if1 .taken)), loop .inv .room)
 
 add-fold : tie.Need-add-fold Inv-loop μ-loop
 add-fold c =
-    let live = c .before .before .before .before .before .live in
-    let if1 = c .before .before .before .before .if1 in
-    omega (arith, live .ensures .few, if1 .left)
-
-slice-aggregate-fold-3 : tie.Need-slice-aggregate-fold-3 Inv-loop μ-loop
-slice-aggregate-fold-3 c = search needs
-
-fold-requires-2 : tie.Need-fold-requires-2 Inv-loop μ-loop
-fold-requires-2 c κs = search needs
-
-loop-less : tie.Need-loop-less Inv-loop μ-loop
-loop-less c = omega arith
+    let loop = c .before .before .before .before .before .before .before .before .before .before .before .before .loop in
+    let if1 = c .before .before .before .before .before .before .before .before .before .before .if1 in
+    omega (arith, loop .inv .near, ltb-true (loop .q) (loop .end) (if1 .taken))
 
 loop-again : tie.Need-loop-again Inv-loop μ-loop
 loop-again c =
+    let tree6 = c .before .before .tree6 in
+    let bits2 = c .before .before .before .before .before .before .before .before .before .bits2 in
+    let numbers2 = c .before .before .before .before .before .before .before .before .numbers2 in
+    let answer = c .before .before .before .before .before .before .before .before .before .before .answer in
+    let loop = c .before .before .before .before .before .before .before .before .before .before .before .before .before .before
+    .before .before .before .loop in
+    let loop-test = c .before .before .before .before .before .before .before .before .before .before .before .before .before .before
+    .before .before .loop-test in
+    let if1 = c .before .before .before .before .before .before .before .before .before .before .before .before .before .before .before .if1 in
+    let if2 = c .before .before .before .before .before .before .if2 in
+    let fold2 = c .before .before .before .fold2 in
+    cuts (tree6 .given) (omega arith) (c .live2 .ensures) refl
+    (record { bits-long = bits2 .given; numbers-long = numbers2 .given; known-long = refl; few = answer .ensures .few })
+    (λ t. nothing t 128) (loop .inv) (loop-test .taken) (ltb-true (loop .q) (loop .end) (if1 .taken)) (answer .ensures)
+    (if2 .taken) (fold2 .ensures)
+
+add-q : tie.Need-add-q Inv-loop μ-loop
+add-q c =
     let loop = c .before .before .before .before .before .before .before .before .before .before .before .loop in
-    let live = c .before .before .before .before .before .before .before .before .live in
-    let loop-test = c .before .before .before .before .before .before .before .before .before .before .loop-test in
-    let if1 = c .before .before .before .before .before .before .before .if1 in
-    let answer = c .before .before .before .before .before .answer in
-    let if2 = c .before .before .before .before .if2 in
-    yes _ _ _ _ _ _ _ _ (loop .inv) _ (live .ensures) (loop-test .taken) (if1 .left) _ (answer .ensures) _ _ _ (if2 .taken)
-    (c .tree6 .given) (omega arith) (c .before .fold2 .ensures)
-
-add-at : tie.Need-add-at Inv-loop μ-loop
-add-at c =
-    let live = c .before .before .before .before .before .live in
-    let if1 = c .before .before .before .before .if1 in
-    omega (arith, live .ensures .few, if1 .left)
-
-loop-less-2 : tie.Need-loop-less-2 Inv-loop μ-loop
-loop-less-2 c = omega arith
+    let if1 = c .before .before .before .before .before .before .before .before .before .if1 in
+    omega (arith, loop .inv .near, ltb-true (loop .q) (loop .end) (if1 .taken))
 
 loop-again-2 : tie.Need-loop-again-2 Inv-loop μ-loop
 loop-again-2 c =
-    let loop = c .before .before .before .before .before .before .before .before .loop in
-    let live = c .before .before .before .before .before .live in
-    let loop-test = c .before .before .before .before .before .before .before .loop-test in
-    let if1 = c .before .before .before .before .if1 in
-    let answer = c .before .before .answer in
-    no _ _ _ _ _ _ _ _ (loop .inv) _ (live .ensures) (loop-test .taken) (if1 .left) _ (answer .ensures) _ (c .before .if2 .left)
-    (elim (c .if3 .came) [ inl p ↦ moved (loop .at) (p .0 .taken) (p .1) | inr p ↦ stayed (loop .at) (p .0 .left) (p .1) ])
+    let loop = c .before .before .before .before .before .before .before .before .before .before .before .loop in
+    let loop-test = c .before .before .before .before .before .before .before .before .before .before .loop-test in
+    let if1 = c .before .before .before .before .before .before .before .before .before .if1 in
+    let answer = c .before .before .before .before .answer in
+    let bits2 = c .before .before .before .bits2 in
+    let numbers2 = c .before .before .numbers2 in
+    goes-on (loop .inv) (loop-test .taken) (ltb-true (loop .q) (loop .end) (if1 .taken)) (answer .ensures) (c .if2 .left)
+    (record { bits-long = bits2 .given; numbers-long = numbers2 .given; known-long = c .before .known2 .given; few = answer .ensures .few })
 
-slice-aggregate-live-2 : tie.Need-slice-aggregate-live-2 Inv-loop μ-loop
-slice-aggregate-live-2 c = search needs
-
-live-requires-2 : tie.Need-live-requires-2 Inv-loop μ-loop
-live-requires-2 c κs = search needs
-
-returns-2 : tie.Need-returns-2 Inv-loop μ-loop
-returns-2 c =
-    let loop = c .before .before .before .loop in
-    let loop-test = c .before .before .loop-test in
-    used-up _ _ _ _ _ _ _ _ (loop .inv) _ (c .live2 .ensures) (loop-test .left) _ refl
+returns : tie.Need-returns Inv-loop μ-loop
+returns c =
+    let loop = c .before .loop in
+    elim (c .loop-test .came) [
+      | inl p ↦ ended (loop .inv) (inr (ltb-false (loop .q) (loop .end) (p .1 .left)))
+      | inr p ↦ ended (loop .inv) (inl (p .left))
+    ]
 
 pub sweep-spec : {M : Type 1} → statement M
 sweep-spec =
@@ -110,24 +87,29 @@ sweep-spec =
     (tie.spec
     Inv-loop
     μ-loop
-    slice-aggregate-fold
-    fold-requires
+    (λ c. search needs)
+    (λ c κs. search needs)
+    (λ c. search needs)
+    (λ c κs. search needs)
+    (λ c. omega arith)
+    (λ c κs. search needs)
     loop-holds
-    slice-aggregate-live
-    live-requires
-    returns
-    slice-aggregate-answer
+    (λ c. search needs)
+    (λ c. search needs)
+    (λ c. search needs)
+    (λ c. search needs)
     answer-requires
-    add-asked
-    slice-aggregate-fold-2
+    (λ c. omega arith)
+    (λ c. search needs)
     add-fold
-    slice-aggregate-fold-3
-    fold-requires-2
-    loop-less
+    (λ c. search needs)
+    (λ c κs. search needs)
+    (λ c. search needs)
+    (λ c κs. search needs)
+    (λ c. omega arith)
+    (λ c. omega arith)
     loop-again
-    add-at
-    loop-less-2
+    add-q
+    (λ c. omega arith)
     loop-again-2
-    slice-aggregate-live-2
-    live-requires-2
-    returns-2)
+    returns)

@@ -1,0 +1,2 @@
+-- Laws of what is kept.
+pub mod Knowing

@@ -1,0 +1,2 @@
+-- What is kept of the searches of a sweep, and what it answers.
+pub mod Kept
