@@ -13,12 +13,12 @@ pub looser : (x y : ℕ) (c d : ℤ) → up c + down d ≤ up d + down c → (a 
     met (atMost x y c) a ≡ true → met (atMost x y d) a ≡ true
 looser x y c d h a m = at-most x y d a .1 (omega (arith, at-most x y c a .0 m))
 
--- x - x <= 0, and not x - x <= -1
-pub itself : (x : ℕ) (a : Assignment) → met (atMost x x (pos 0)) a ≡ true
-itself x a = at-most x x (pos 0) a .1 (omega arith)
+-- "x - x <= c is true exactly if c >= 0": for c = n, and not for c = -n - 1
+pub itself : (x n : ℕ) (a : Assignment) → met (atMost x x (pos n)) a ≡ true
+itself x n a = at-most x x (pos n) a .1 (omega arith)
 
-pub not-below-itself : (x : ℕ) (a : Assignment) → met (atMost x x (negsuc 0)) a ≡ true → ⊥
-not-below-itself x a m = omega (arith, at-most x x (negsuc 0) a .0 m)
+pub not-below-itself : (x n : ℕ) (a : Assignment) → met (atMost x x (negsuc n)) a ≡ true → ⊥
+not-below-itself x n a m = omega (arith, at-most x x (negsuc n) a .0 m)
 
 -- not both x - y > 3 and x - y < 4
 pub none-between : (x y : ℕ) (a : Assignment) → met (above x y (pos 3)) a ≡ true → met (above y x (negsuc 3)) a ≡ true → ⊥

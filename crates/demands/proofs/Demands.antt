@@ -16,7 +16,7 @@ use Rattle.condition.specs.Limits.{lastNumber}
 use Rattle.condition.specs.Meaning.{Assignment, Tree, plain, holds, given}
 use Rattle.condition.specs.Bytes.{bytes}
 use Rattle.condition.specs.Reading.{Read, tree, refusal, read}
-use Rattle.condition.specs.Satisfying.{Satisfiable}
+use Rattle.condition.specs.Satisfying.{Satisfiable, InRange}
 use Rattle.condition.specs.Folding.{live}
 use Rattle.condition.specs.Sweep.{Answer, trimmed, needs}
 use Rattle.condition.proofs.Reading.{read-written, written-read, refusals}
@@ -34,6 +34,7 @@ use Rattle.travelring.specs.declared.Trimmed.the-variants as trimmed-variants
 use Rattle.travelring.specs.Judging.{judgedTree, told, judged}
 use Rattle.travelring.specs.Finding.{toldFound, FindsTree, FindsRead, Finds}
 use Rattle.travelring.specs.Trimming.{Outcome, refuses, ended, fitted, outcomeRead, outcome, toldTrimmed, onto, Trims, endedBy}
+use Rattle.travelring.proofs.Outcomes.{by-read, too-long, fits, told-ended}
 use Rattle.demands.specs.Demands.{TrimCall, JudgeCall, FindCall, said, four, result, Room, TrimTable, JudgeTable, FindTable}
 use Rattle.demands.specs.Demands.{Demand1, Finished, Writes, finished, stopped, Written, Demand2, Demand3}
 
@@ -43,24 +44,14 @@ as-is : (c : TrimCall) (o : Outcome) → outcome (c .input) (c .ration) (length 
     (said c ≡ o .said) × (c .after ≡ onto (o .written) (c .before))
 as-is c o e = (c .allowed .told ∙ ap (λ x. x .said) e, c .allowed .lent ∙ ap (λ x. onto (x .written) (c .before)) e)
 
-was : (s : List ℕ) (ration room : ℕ) (x : Read) → read s ≡ x → outcome s ration room ≡ outcomeRead x ration room
-unfolding outcome
-was s ration room x e = ap (λ y. outcomeRead y ration room) e
-
-too-long : (room : ℕ) (a : Answer) → room < length (bytes (a .tree)) → fitted room a ≡ refuses 9 (length (bytes (a .tree)))
-too-long room a h = simp (lt-ltb room (length (bytes (a .tree))) h)
-
-fits : (room : ℕ) (a : Answer) → length (bytes (a .tree)) ≤ room → fitted room a ≡ ended a
-fits room a h = simp (le-ltb room (length (bytes (a .tree))) h)
-
 pub table : (c : TrimCall) → TrimTable c
 table c =
     let room = length (c .before) in
     record {
-      refuses = λ n p e. as-is c (refuses n p) (was (c .input) (c .ration) room (refusal n p) e);
-      long = λ t e h. as-is c _ (was (c .input) (c .ration) room (tree t) e ∙ too-long room (trimmed t (c .ration)) h);
+      refuses = λ n p e. as-is c (refuses n p) (by-read (c .input) (c .ration) room (refusal n p) e);
+      long = λ t e h. as-is c _ (by-read (c .input) (c .ration) room (tree t) e ∙ too-long room (trimmed t (c .ration)) h);
       ends = λ t e h. as-is c (ended (trimmed t (c .ration)))
-          (was (c .input) (c .ration) room (tree t) e ∙ fits room (trimmed t (c .ration)) h);
+          (by-read (c .input) (c .ration) room (tree t) e ∙ fits room (trimmed t (c .ration)) h);
     }
 
 -- ---- every input has an answer
@@ -70,26 +61,22 @@ trims-as : (s : List ℕ) (ration : ℕ) (before : List ℕ) (o : Outcome) → o
 trims-as s ration before o e r h =
     (r, onto (o .written) before, record { told = h ∙ ap (λ x. x .said) (sym e); lent = ap (λ x. onto (x .written) before) (sym e) })
 
-told-ended : (a : Answer) (b : Bool) → b ≡ a .finished → toldTrimmed (endedBy b (a .asked) (live (a .tree))) ≡ ended a .said
-told-ended a true e = simp (sym e)
-told-ended a false e = simp (sym e)
-
 trim-answers : (s : List ℕ) (ration : ℕ) (before : List ℕ) → (r : Trimmed) × (after : List ℕ) × Trims s ration before r after
 trim-answers s ration before = by (read s) refl
   where
     by : (x : Read) → read s ≡ x → (r : Trimmed) × (after : List ℕ) × Trims s ration before r after
     by (refusal n p) e =
         let h = there n p (refusals s n p e) in
-        trims-as s ration before (refuses n p) (was s ration (length before) (refusal n p) e) (trimmed-variants.Refused (refusalOf n p))
+        trims-as s ration before (refuses n p) (by-read s ration (length before) (refusal n p) e) (trimmed-variants.Refused (refusalOf n p))
         (simp (h .0, h .1))
     by (tree t) e =
         let a = trimmed t ration in
         let room = length before in
         let needed = length (bytes (a .tree)) in
         cases (ltb room needed)
-        (λ q. trims-as s ration before _ (was s ration room (tree t) e ∙ too-long room a (ltb-true room needed q))
+        (λ q. trims-as s ration before _ (by-read s ration room (tree t) e ∙ too-long room a (ltb-true room needed q))
         (trimmed-variants.Long needed) refl)
-        (λ q. trims-as s ration before _ (was s ration room (tree t) e ∙ fits room a (ltb-false room needed q))
+        (λ q. trims-as s ration before _ (by-read s ration room (tree t) e ∙ fits room a (ltb-false room needed q))
         (endedBy (a .finished) (a .asked) (live (a .tree))) (told-ended a (a .finished) refl))
 
 judged-unfit : (s : List ℕ) (flags : ℕ) (numbers : List ℤ) → (length numbers ≡ lastNumber → ⊥) →
@@ -135,8 +122,9 @@ none-found t before (found.Refused why) after h n = absurd h
 none-found t before found.Unfit after h n = absurd h
 
 some-found : (t : Tree) (before : List ℤ) (r : Found) (after : List ℤ) → FindsTree t before r after → Satisfiable t →
-    (toldFound r .answer ≡ 0) × (toldFound r .place ≡ 0) × (holds t (given (toldFound r .flags) after) ≡ true)
-some-found t before (found.Shown bits) after h w = (refl, refl, h .0)
+    let a = given (toldFound r .flags) after in
+    (toldFound r .answer ≡ 0) × (toldFound r .place ≡ 0) × (holds t a ≡ true) × InRange a
+some-found t before (found.Shown bits) after h w = (refl, refl, h .0, h .1)
 some-found t before found.Nothing after h w = absurd (h .0 w)
 some-found t before (found.Refused why) after h w = absurd h
 some-found t before found.Unfit after h w = absurd h
@@ -258,10 +246,10 @@ stays c c' i b h f =
     finished-stays t (c .ration) (c' .ration) (really c t (g .was-read) (g .room) f) h
     in
     let same : outcome (c' .input) (c' .ration) (length (c' .before)) ≡ outcome (c .input) (c .ration) (length (c .before)) =
-    was (c' .input) (c' .ration) (length (c' .before)) (tree t) (ap read i ∙ g .was-read) ∙
+    by-read (c' .input) (c' .ration) (length (c' .before)) (tree t) (ap read i ∙ g .was-read) ∙
     ap (λ l. fitted (length l) (trimmed t (c' .ration))) b ∙
     ap (fitted (length (c .before))) stay ∙
-    sym (was (c .input) (c .ration) (length (c .before)) (tree t) (g .was-read))
+    sym (by-read (c .input) (c .ration) (length (c .before)) (tree t) (g .was-read))
     in (
       as-is c' _ same .0 ∙ sym (c .allowed .told),
       as-is c' _ same .1 ∙ ap (onto (outcome (c .input) (c .ration) (length (c .before)) .written)) b ∙ sym (c .allowed .lent),

@@ -91,11 +91,11 @@ five-cut a = and-more (holds p a) (holds p a) (λ e. e)
 
 six-true : NonConstraining (x-x<= (pos 0)) 0
 unfolding parts
-six-true a e = itself 1 a
+six-true a e = itself 1 0 a
 
 six-false : NonRelaxing (x-x<= (negsuc 0)) 0
 unfolding parts
-six-false a e = absurd (not-below-itself 1 a e)
+six-false a e = absurd (not-below-itself 1 0 a e)
 
 seven-cut : NonRelaxing seven 1
 unfolding parts

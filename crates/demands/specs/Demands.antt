@@ -11,7 +11,7 @@ use Rattle.condition.specs.Limits.{lastNumber}
 use Rattle.condition.specs.Meaning.{Assignment, Tree, plain, leaf, holds, negate, ends, given}
 use Rattle.condition.specs.Bytes.{Octets, bytes}
 use Rattle.condition.specs.Reading.{Read, tree, refusal, read}
-use Rattle.condition.specs.Satisfying.{Satisfiable}
+use Rattle.condition.specs.Satisfying.{Satisfiable, InRange}
 use Rattle.condition.specs.Folding.{fold, live}
 use Rattle.condition.specs.Critical.{endAt, critical, Implies, NonConstraining, NonRelaxing}
 use Rattle.condition.specs.Sweep.{trimmed, needs}
@@ -97,10 +97,10 @@ pub record FindTable (c : FindCall) : Type 0 where
   -- 12
   pub none : length (c .before) ≡ lastNumber → (t : Tree) → read (c .input) ≡ tree t → (Satisfiable t → ⊥) →
       (toldFound (c .answer) ≡ record { answer = 12; place = 0; flags = 0 }) × (c .after ≡ c .before)
-  -- 0
+  -- 0: the assignment shown satisfies the tree, and its numbers are in range
   pub finds : length (c .before) ≡ lastNumber → (t : Tree) → read (c .input) ≡ tree t → Satisfiable t →
-      (toldFound (c .answer) .answer ≡ 0) × (toldFound (c .answer) .place ≡ 0) ×
-      (holds t (given (toldFound (c .answer) .flags) (c .after)) ≡ true)
+      let a = given (toldFound (c .answer) .flags) (c .after) in
+      (toldFound (c .answer) .answer ≡ 0) × (toldFound (c .answer) .place ≡ 0) × (holds t a ≡ true) × InRange a
 
 pub record Demand1 : Type 0 where
   -- "Every byte string, ration and buffer length gets an answer": the contracts of trim and judge can be met

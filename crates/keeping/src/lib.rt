@@ -1,23 +1,22 @@
 // Keeps the assignments that searches found, and lets them answer later questions. One walk of the tree under an assignment answers no
 // to a question about each end that turns the root there; only a question that no kept assignment answers is searched. Whatever
 // assignments are kept, what they tell is right: nothing needs to be known of them.
-use condition::LAST_NUMBER;
 use nodes::ROOM;
 use settling::Verdict;
 ghost use mathlib.Core.Path.{_≡_};
-ghost use Prim.Native.Nat.{suc, _+_, _*_, _%_, _≤_, _<_};
+ghost use Prim.Native.Nat.{suc, _*_, _%_, _≤_, _<_};
 ghost use lib.ListN.{length};
 ghost use Rattle.nodes.specs.Words.{nodeAt};
 ghost use Rattle.keeping.specs.Kept.{Notes, Learns, Room, Replies};
 
-// So many assignments are kept; a later one takes the last one's place.
+// So many assignments are kept at most; one more takes the last one's place.
 pub const KEPT: usize = 32;
 
 // Their numbers, 15 each.
-pub const NUMBERS: usize = 480;
+pub const NUMBERS: usize = 15 * KEPT;
 
-// Two questions about each end, of which there are fewer than nodes.
-pub const QUESTIONS: usize = 128;
+// Two questions about each end, and a tree has no more ends than nodes.
+pub const QUESTIONS: usize = 2 * ROOM;
 
 // The answer to a question, and what it leaves for the next: how many assignments are kept, and the first of them that the tree has not
 // been walked under.

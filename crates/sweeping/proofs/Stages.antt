@@ -120,8 +120,8 @@ module _ {n : ℕ → Node} {k ration : ℕ} {tree : List ℕ} {size end : ℕ} 
 
 -- a tree just folded, at its first question
 module _ {tree : List ℕ} {size room r end : ℕ} {bits : List ℕ} {numbers : List ℤ} {known : List ℕ} {many : ℕ} (long : length tree ≡ 64)
-    (wide : 64 ≤ room) (lives : Lives (nodeAt tree) size r) (twice : end ≡ 2 * r) (held : Room bits numbers known many)
-    (blank : (t : Tree) → Known t known) where
+    (wide : 64 ≤ room) (lives : Lives (nodeAt tree) size r) (twice : end ≡ 2 * r) (blank : (t : Tree) → Known t known)
+    (held : Room bits numbers known many) where
   anew : {t : Tree} (u : Tree) (asked : ℕ) → Reached over (next sat) asked (start (fold t)) (start u) →
       Laid u (nodeAt tree) 0 × (size ≡ nodes u) → size < 64 → Formed u → At t tree size end known 0 asked
   anew u asked reached g few formed = record {

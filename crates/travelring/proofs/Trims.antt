@@ -3,10 +3,9 @@
 use Prim.Native.Nat.{ℕ, _≤_, _<_}
 use mathlib.Core.Path.{_≡_, refl, sym, subst, _∙_}
 use mathlib.Core.List.{List}
-use mathlib.Core.Bool.{Bool, true, false}
+use mathlib.Core.Bool.{Bool}
 use native.Mathlib.Omega.{arith}
 use lib.ListN.{length, getD}
-use borrow.Author.Tests.{lt-ltb, le-ltb}
 use Rattle.condition.specs.Meaning.{Tree}
 use Rattle.condition.specs.Reading.{Read, tree, refusal, read}
 use Rattle.condition.specs.Folding.{live}
@@ -24,8 +23,9 @@ use Rattle.writing.specs.Written.{Wrote, Written}
 use Rattle.asking.specs.Asked.{Lives}
 use Rattle.sweeping.specs.Swept.{Says, Sweeps}
 use Rattle.travelring.specs.declared.Trimmed.{Trimmed}
-use Rattle.travelring.specs.declared.Trimmed.the-variants.{Finished, Stopped, Refused, Long}
-use Rattle.travelring.specs.Trimming.{Outcome, refuses, ended, fitted, outcomeRead, outcome, toldTrimmed, onto, Trims, endedBy}
+use Rattle.travelring.specs.declared.Trimmed.the-variants.{Refused, Long}
+use Rattle.travelring.specs.Trimming.{Outcome, fitted, outcomeRead, outcome, toldTrimmed, onto, Trims, endedBy}
+use Rattle.travelring.proofs.Outcomes.{too-long, fits, told-ended}
 
 -- the contract, of an outcome
 record Shows (o : Outcome) (out : List ℕ) (r : Trimmed) (out' : List ℕ) : Type 0 where
@@ -37,18 +37,14 @@ module _ (a : Answer) (out out' : List ℕ) (needed : ℕ) (wrote : Wrote (a .tr
   long : length out < needed → Shows (fitted (length out) a) out (Long needed) out'
   long h =
       let n = wrote .long in
-      simp (sym n, lt-ltb (length out) needed h) (record { told = refl; lent = wrote .full h })
+      rw (too-long (length out) a (omega (arith, n, h))) (record { told = simp n; lent = wrote .full h })
 
-  told-ended : (finished : Bool) → finished ≡ a .finished →
-      toldTrimmed (endedBy finished (a .asked) (live (a .tree))) ≡ ended a .said
-  told-ended true e = simp (sym e)
-  told-ended false e = simp (sym e)
-
-  fits : needed ≤ length out → (finished : Bool) (asked e : ℕ) → finished ≡ a .finished → asked ≡ a .asked →
-      e ≡ live (a .tree) → Shows (fitted (length out) a) out (endedBy finished asked e) out'
-  fits h finished asked e f q k =
+  done : needed ≤ length out → (finished : Bool) (asked e : ℕ) → finished ≡ a .finished → asked ≡ a .asked → e ≡ live (a .tree) →
+      Shows (fitted (length out) a) out (endedBy finished asked e) out'
+  done h finished asked e f q k =
       let n = wrote .long in
-      simp (sym n, le-ltb (length out) needed h, q, k) (record { told = told-ended finished f; lent = wrote .here h ∙ simp n })
+      rw (fits (length out) a (omega (arith, n, h)), q, k)
+      (record { told = told-ended a finished f; lent = wrote .here h ∙ simp n })
 
 module _ (s : List ℕ) (ration : ℕ) (out : List ℕ) (ns : List ℕ) (x : Held) (read-it : Holds ns x (read s)) where
   as-read : (r : Trimmed) (out' : List ℕ) → Shows (outcomeRead (read s) ration (length out)) out r out' → Trims s ration out r out'
@@ -98,4 +94,4 @@ module _ (s : List ℕ) (ration : ℕ) (out : List ℕ) (ns : List ℕ) (x : Hel
           let a = trimmed t ration in
           let counted = lives .right (a .tree) (g .says .laid) (sym (g .says .sized)) (omega (arith, g .small)) in
           subst (λ z. Shows (fitted (length out) a) out z out') (sym same)
-          (fits a out out' needed (wrote t g) h finished asked ends (g .says .over) (g .says .count) counted))
+          (done a out out' needed (wrote t g) h finished asked ends (g .says .over) (g .says .count) counted))

@@ -9,12 +9,10 @@ use nodes::Node;
 use nodes::node_at;
 use nodes::size_at;
 ghost use mathlib.Core.Path.{_≡_};
-ghost use mathlib.Core.Bool.{cond};
 ghost use Prim.Native.Nat.{_+_, _≤_, _<_};
 ghost use lib.ListN.{length};
 ghost use Rattle.condition.specs.Meaning.{given};
 ghost use Rattle.nodes.specs.Words.{nodeAt};
-ghost use Rattle.nodes.specs.Laid.{joinOf};
 ghost use Rattle.turning.specs.Turned.{side, Clears, Ends, Turns, TurnsAll, Tells};
 
 // What a walk saw: whether the trees are true, and how many ends they have, each of which now has its mark.

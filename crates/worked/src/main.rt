@@ -16,6 +16,9 @@ use typed::text::read_tree;
 ghost use Prim.Native.Nat.{_≤_};
 ghost use lib.ListN.{length};
 
+// Room for all the lines.
+const MOST_TEXT: usize = 131072;
+
 // "The longest tree has 190 bytes."
 const MOST_ROOM: usize = 190;
 
@@ -109,7 +112,7 @@ fn trim_lines(text: &[u8]) {
 }
 
 fn main() {
-    let mut text = io::large_buffer();
+    let mut text = [0u8; MOST_TEXT];
     let n = io::read_full(STDIN_FILENO, &mut text);
     trim_lines(&text[..n]);
 }

@@ -22,9 +22,8 @@ loop-holds : tie.Need-loop-holds Inv-loop μ-loop
 loop-holds c =
     let tree2 = c .before .before .before .tree2 in
     let fold = c .before .before .before .before .fold in
-    begins (tree2 .given) (omega arith) (c .before .live .ensures) refl
-    (record { bits-long = refl; numbers-long = refl; known-long = refl; few = c .none .ensures }) (λ t. nothing t 128)
-    (fold .ensures)
+    begins (tree2 .given) (omega arith) (c .before .live .ensures) refl (λ t. nothing t 128)
+    (record { bits-long = refl; numbers-long = refl; known-long = refl; few = c .none .ensures }) (fold .ensures)
 
 answer-requires : tie.Need-answer-requires Inv-loop μ-loop
 answer-requires c κs =
@@ -51,9 +50,9 @@ loop-again c =
     let if1 = c .before .before .before .before .before .before .before .before .before .before .before .before .before .before .before .if1 in
     let if2 = c .before .before .before .before .before .before .if2 in
     let fold2 = c .before .before .before .fold2 in
-    cuts (tree6 .given) (omega arith) (c .live2 .ensures) refl
+    cuts (tree6 .given) (omega arith) (c .live2 .ensures) refl (λ t. nothing t 128)
     (record { bits-long = bits2 .given; numbers-long = numbers2 .given; known-long = refl; few = answer .ensures .few })
-    (λ t. nothing t 128) (loop .inv) (loop-test .taken) (ltb-true (loop .q) (loop .end) (if1 .taken)) (answer .ensures)
+    (loop .inv) (loop-test .taken) (ltb-true (loop .q) (loop .end) (if1 .taken)) (answer .ensures)
     (if2 .taken) (fold2 .ensures)
 
 add-q : tie.Need-add-q Inv-loop μ-loop
