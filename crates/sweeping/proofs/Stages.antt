@@ -149,7 +149,8 @@ module _ {tree : List ℕ} {size room r end : ℕ} {bits : List ℕ} {numbers : 
 
   -- a yes
   pub cuts : {n : ℕ → Node} {k ration : ℕ} {old : List ℕ} {size₀ end₀ : ℕ} {bits₀ : List ℕ} {numbers₀ : List ℤ}
-      {known₀ known₁ : List ℕ} {many₀ q asked : ℕ} → Goes n k ration old size₀ end₀ bits₀ numbers₀ known₀ many₀ q asked → asked < ration → q < end₀ →
+      {known₀ known₁ : List ℕ} {many₀ q asked : ℕ} →
+      Goes n k ration old size₀ end₀ bits₀ numbers₀ known₀ many₀ q asked → asked < ration → q < end₀ →
       {v : Bool} → Replies (nodeAt old) size₀ q known₀ v many known₁ → v ≡ true →
       Folded (nodeAt old) size₀ (q / 2 + 1) (eqb (q % 2) 0) room (nodeAt tree) size →
       Goes n k ration tree size end bits numbers known many 0 (asked + 1)
