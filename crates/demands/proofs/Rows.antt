@@ -9,7 +9,7 @@ use native.Mathlib.Omega.{arith}
 use lib.Dec.{leb, ltb}
 use lib.ListN.{length}
 use borrow.Table.Steps.{cases}
-use borrow.Author.Tests.{leb-true, ltb-true, lt-leb, not-true}
+use borrow.Author.Tests.{leb-true, ltb-true, ltb-false, lt-leb, not-true}
 use Rattle.condition.specs.Meaning.{Assignment, value, met, Tree, plain, holds, ends, given}
 use Rattle.condition.specs.Bytes.{groupsOf, endBytes, bytes}
 use Rattle.condition.specs.Reading.{numberFrom, upTo, readCount, readEnd, readJoin, readNode, readAll, readTree, tree, read}
@@ -25,7 +25,8 @@ use Rattle.condition.proofs.Sweep.{one-is}
 use Rattle.condition.proofs.Deciding.{sat-is}
 use Rattle.condition.proofs.Trimmed.{asked-is, finished-is, finished-stays}
 use Rattle.condition.proofs.Count.{count-fixed}
-use Rattle.travelring.specs.Trimming.{ended, fitted, outcomeRead, outcome}
+use Rattle.travelring.specs.Trimming.{ended, fitted, outcome}
+use Rattle.travelring.proofs.Outcomes.{by-read, fits}
 use Rattle.demands.specs.Worked.{room}
 
 both-true : (x y : Bool) → (x && y) ≡ true → (x ≡ true) × (y ≡ true)
@@ -116,8 +117,7 @@ long u = ltb room (length (bytes u))
 
 shown : (s : List ℕ) (r : ℕ) (t : Tree) (a : Answer) → read s ≡ tree t → trimmed t r ≡ a → long (a .tree) ≡ false →
     outcome s r room ≡ ended a
-unfolding outcome
-shown s r t a e k l = ap (λ x. outcomeRead x r room) e ∙ (ap (fitted room) k ∙ rw l)
+shown s r t a e k l = by-read s r room (tree t) e ∙ (ap (fitted room) k ∙ fits room a (ltb-false room (length (bytes (a .tree))) l))
 
 pub done : (s : List ℕ) (r : ℕ) (t : Tree) {u : Tree} {n : ℕ} → read s ≡ tree t → Sweeps (fold t) n u →
     (leb n r && not (long u)) ≡ true → outcome s r room ≡ ended (answered u n true)
