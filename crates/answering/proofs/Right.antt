@@ -14,6 +14,7 @@ use Rattle.condition.specs.Critical.{endAt, both, critical}
 use Rattle.condition.specs.Deciding.{sat}
 use Rattle.condition.specs.Sweep.{stage, claim, question, answer}
 use Rattle.condition.proofs.Negation.{negate-twice}
+use Rattle.condition.proofs.Depth.{not-deeper}
 use Rattle.condition.proofs.Deciding.{sat-same}
 use Rattle.nodes.specs.declared.Node.{Node}
 use Rattle.nodes.specs.Words.{nodeAt}
@@ -57,9 +58,9 @@ answered t i second v numbers h right =
 pub answers : (n : ℕ → Node) (size at : ℕ) (second : Bool) (o o' : List ℕ) (r : ℕ) (numbers numbers' : List ℤ) (v : Verdict) →
     length o ≡ 64 → Asks n size at (not second) o r o' → Finds (nodeAt o') r numbers v numbers' → Answers n size at second numbers v
 answers n size at second o o' r numbers numbers' v wide asks finds = record {
-  right = λ fifteen t laid is near formed end.
-      let a = asks .right t laid is near (omega arith) in
+  right = λ fifteen t laid is near within end.
+      let a = asks .right t laid is near (omega arith) end (not-deeper t within) in
       let right = finds .right fifteen (written t at (not second)) (a .0) (sym (a .1)) (omega (arith, asks .small))
-      (question-named t at (not second) formed) in
+      (question-named t at (not second) (within .formed)) in
       answered t at second v numbers' end right;
 }

@@ -1,236 +1,252 @@
--- What each way out of the cycle shows, one law for each. Starred siblings are written first and what the recursion gathers after
--- them, into the rest of the slice; the two parts together are what `gathered` says.
-use Prim.Native.Nat.{ℕ, _+_, _-_, _≤_, _<_}
+-- What each way out of `siblings`, `gather` and `ask` shows. The siblings are written first and what is gathered of the child after
+-- them, into the rest of the slice; the two parts together are what `gathered` says of the connective.
+use Prim.Native.Nat.{ℕ, suc, _+_, _-_, _≤_, _<_, max}
 use mathlib.Core.Path.{_≡_, refl, sym, subst, ap, _∙_}
-use mathlib.Core.List.{List, _++_}
-use mathlib.Core.Bool.{Bool, true, false, not}
+use mathlib.Core.List.{List}
+use mathlib.Core.Bool.{Bool, true, false}
 use native.Mathlib.Omega.{arith}
-use lib.ListN.{length, getD, set, take, length-set, length-take, length-append, List·getD-append}
-use lib.Seq.{getD-append-add, getD-take}
-use borrow.Author.Tests.{lt-ltb, le-ltb}
-use borrow.Rule.Slice.PartMut.{putMid, postOf}
+use lib.ListN.{length, getD, set, length-set}
+use borrow.Rule.Slice.PartMut.{putMid}
+use Rattle.condition.specs.Limits.{deepest}
 use Rattle.condition.specs.Meaning.{End, Join, Tree, plain, leaf, join, Forest, none, more, count}
-use Rattle.condition.specs.Folding.{live}
-use Rattle.condition.specs.Critical.{star}
+use Rattle.condition.specs.Depth.{deep, deepAll}
+use Rattle.condition.specs.Folding.{live, liveAll}
 use Rattle.nodes.specs.declared.Node.{Node}
 use Rattle.nodes.specs.declared.Node.the-variants as node
-use Rattle.nodes.specs.Words.{nodeAt, nodeOf, wordOf, sizeOf}
+use Rattle.nodes.specs.Words.{nodeOf, nodeAt, wordOf}
 use Rattle.nodes.specs.Laid.{joinOf, flagEnd, boundEnd, nodes, nodesAll, Laid, LaidAll}
 use Rattle.nodes.proofs.Words.{put-here, put-other}
-use Rattle.nodes.proofs.Laws.{some-node, tell, sized, at-plain, at-flag, at-bound, at-join, at-none, at-more, moveAll}
-use Rattle.asking.specs.Asked.{turnedNode, endsFrom, asked, starAll, onto, gathered, gatheredIn, question, Stand, Gathers, GathersAll, Asks}
-use Rattle.asking.proofs.Turned.{Copies, end-copied, one-copied, all-copied, star-nodes, star-nodesAll, star-count, ends-are}
+use Rattle.nodes.proofs.Laws.{some-node, tell, at-plain, at-flag, at-bound, at-join, at-none, moveAll}
+use Rattle.asking.specs.Asked.{turned, asked, starAll, onto, gathered, gatheredIn, question}
+use Rattle.asking.specs.Asked.{Stars, Among, Sought, Siblings, Stand, Gathers, Asks}
+use Rattle.asking.proofs.Rest.{before-rest, in-rest, put-first}
+use Rattle.asking.proofs.Turned.{turned-end, star-nodes, star-count}
+use Rattle.asking.proofs.Onto.{onto-nodes, onto-count, onto-deep, onto-laid, laid-onto, count-nodes, star-onto, gathered-among}
 
--- ---- trees after trees
+-- ---- two parts of the output: us stand in the first, vs in the second, which begins after d nodes
 
-onto-nodes : (ts us : Forest) → nodesAll (onto ts us) ≡ nodesAll ts + nodesAll us
-unfolding nodes
-onto-nodes none us = omega arith
-onto-nodes (more t ts) us = let rest = onto-nodes ts us in omega arith
+both-parts : (us vs : Forest) (d : ℕ) (o₁ o₂ o : ℕ → Node) → nodesAll us ≡ d → LaidAll us o₁ 0 → LaidAll vs o₂ 0 →
+    ((x : ℕ) → x < d → o x ≡ o₁ x) → ((x : ℕ) → x < nodesAll vs → o (d + x) ≡ o₂ x) → LaidAll (onto us vs) o 0
+both-parts us vs d o₁ o₂ o e l l₂ before after =
+    onto-laid us vs o 0
+    (moveAll us o₁ o 0 0 (λ x q. ap o (omega arith) ∙ before x (omega arith) ∙ ap o₁ (omega arith)) l)
+    (moveAll vs o₂ o 0 (0 + nodesAll us) (λ x q. ap o (omega arith) ∙ after x q ∙ ap o₂ (omega arith)) l₂)
 
-onto-count : (ts us : Forest) → count (onto ts us) ≡ count ts + count us
-onto-count none us = omega arith
-onto-count (more t ts) us = let rest = onto-count ts us in omega arith
+-- ---- `siblings`
 
-onto-laid : (ts us : Forest) (n : ℕ → Node) (i : ℕ) → LaidAll ts n i → LaidAll us n (i + nodesAll ts) → LaidAll (onto ts us) n i
-unfolding Laid nodes
-onto-laid none us n i l k = let z : i + 0 ≡ i = omega arith in rw z at k
-onto-laid (more t ts) us n i l k =
-    let z : i + (nodes t + nodesAll ts) ≡ i + nodes t + nodesAll ts = omega arith in
-    (l .0, onto-laid ts us n (i + nodes t) (l .1) (rw z at k))
+pub siblings-starred : (n : ℕ → Node) (i left at size : ℕ) (a : Bool) (depth : ℕ) (o₁ o₂ o : ℕ → Node) →
+    (i ≤ at) × (at + size ≤ i + left) → Stars n i (at - i) a depth o₁ → Stars n (at + size) (i + left - (at + size)) a depth o₂ →
+    ((x : ℕ) → x < at - i → o x ≡ o₁ x) → ((x : ℕ) → x < i + left - (at + size) → o (at - i + x) ≡ o₂ x) →
+    Siblings n i left at size a depth o
+unfolding nodes Laid deep live
+siblings-starred n i left at size a depth o₁ o₂ o h s s₂ before after = record { right = right }
+  where
+    right : (ts : Forest) (m end : ℕ) → LaidAll ts n i → nodesAll ts ≡ left → deepAll ts ≤ depth → (p : Among ts i m at size end) →
+        LaidAll (starAll (joinOf a) (onto (p .elder) (p .younger))) o 0
+    right ts m end l e d p =
+        let j = joinOf a in
+        let ours = p .elder in
+        let next = p .younger in
+        let start = p .before in
+        let here = p .here in
+        let total : nodesAll ts ≡ nodesAll ours + (nodes (p .t) + nodesAll next) =
+        ap nodesAll (p .parts) ∙ onto-nodes ours (more (p .t) next) in
+        let nested : deepAll ts ≡ max (deepAll ours) (max (deep (p .t)) (deepAll next)) =
+        ap deepAll (p .parts) ∙ onto-deep ours (more (p .t) next) in
+        let laid = laid-onto ours (more (p .t) next) n i (subst (λ us. LaidAll us n i) (p .parts) l) in
+        let elder = s .right ours (laid .0) (omega arith) (omega arith) in
+        let younger = s₂ .right next (subst (LaidAll next n) (omega arith) (laid .1 .1)) (omega arith) (omega arith) in
+        rw (star-onto j ours next)
+        (both-parts (starAll j ours) (starAll j next) (at - i) o₁ o₂ o (star-nodes j ours ∙ omega arith) elder younger before
+        (λ x q. after x (omega (arith, star-nodes j next))))
 
-count-nodes : (ts : Forest) → count ts ≤ nodesAll ts
-unfolding nodes
-count-nodes none = omega arith
-count-nodes (more t ts) = omega (arith, some-node t, count-nodes ts)
+-- the same of slices: the younger go to the rest of the output
+pub siblings-lent : (n : ℕ → Node) (i left at size : ℕ) (a : Bool) (depth : ℕ) (o₁ o₂ : List ℕ) →
+    (i ≤ at) × (at + size ≤ i + left) × (left ≤ length o₁) → length o₂ ≡ length o₁ - (at - i) → Stars n i (at - i) a depth (nodeAt o₁) →
+    Stars n (at + size) (i + left - (at + size)) a depth (nodeAt o₂) →
+    Siblings n i left at size a depth (nodeAt (putMid (at - i) (length o₁ - (at - i)) o₁ o₂))
+siblings-lent n i left at size a depth o₁ o₂ h long s s₂ =
+    siblings-starred n i left at size a depth (nodeAt o₁) (nodeAt o₂) _ (h .0, h .1) s s₂
+    (λ x lt. before-rest (at - i) (length o₁ - (at - i)) o₁ o₂ (omega arith) x lt)
+    (λ x lt. in-rest (at - i) (length o₁ - (at - i)) o₁ o₂ (omega arith) x (omega arith))
 
--- ---- `node`
+-- ---- `gather`
 
-module _ (n : ℕ → Node) (i left m : ℕ) (opp : Bool) (o : List ℕ) where
-  pub none-left : left ≡ 0 → Gathers n i left m opp o 0 0
-  none-left z = record { small = omega arith; few = omega arith; right = λ t l h. absurd (omega (arith, some-node t)) }
+module _ (n : ℕ → Node) (i left m depth : ℕ) (opp : Bool) (o : ℕ → Node) where
+  -- nothing is written where no tree is laid out, or a constant
+  nothing : ((t : Tree) → Laid t n i → nodes t ≡ left → m < live t → deep t ≤ depth → ⊥) → Gathers n i left m depth opp o 0 0
+  nothing never = record { small = omega arith; few = omega arith; right = λ t l e h d. absurd (never t l e h d) }
 
-  pub constant : (b : Bool) → n i ≡ node.Plain b → Gathers n i left m opp o 0 0
+  pub none-left : left ≡ 0 → Gathers n i left m depth opp o 0 0
+  none-left z = nothing (λ t l e h d. omega (arith, some-node t))
+
+  pub constant : (b : Bool) → n i ≡ node.Plain b → Gathers n i left m depth opp o 0 0
+  unfolding live
+  constant b q = nothing (λ t l e h d. let z : live t ≡ 0 = ap live (at-plain n i t b q l) in omega arith)
+
+  an-end : (e : End) → ((t : Tree) → Laid t n i → t ≡ leaf e) → (left ≡ 0 → ⊥) → o 0 ≡ turned opp (n i) →
+      Gathers n i left m depth opp o 1 1
   unfolding gathered Laid nodes
-  constant b q = record {
+  an-end e is z here = record {
     small = omega arith;
     few = omega arith;
-    right = λ t l h. rw (at-plain n i t b q l) (record { laid = tt; sized = refl; counted = refl });
-  }
-
-  an-end : (e : End) → ((t : Tree) → Laid t n i → t ≡ leaf e) → (left ≡ 0 → ⊥) →
-      ((x : ℕ) → x < 1 → nodeAt o x ≡ turnedNode opp (n (i + x))) → Gathers n i left m opp o 1 1
-  unfolding gathered Laid nodes
-  an-end e is z c = record {
-    small = omega arith;
-    few = omega arith;
-    right = λ t l h.
-        let here : nodeAt o 0 ≡ turnedNode opp (n i) = c 0 (omega arith) ∙ ap (λ x. turnedNode opp (n x)) (omega arith) in
-        let end = end-copied opp e (n i) (subst (λ u. Laid u n i) (is t l) l) in
+    right = λ t l h lt d.
+        let end = turned-end opp e (n i) (subst (λ u. Laid u n i) (is t l) l) in
         rw (is t l) (record { laid = (tell (sym here) (asked opp e) end, tt); sized = refl; counted = refl });
   }
 
-  pub a-flag : (so : Bool) (p : ℕ) → n i ≡ node.Flag so p → (left ≡ 0 → ⊥) →
-      ((x : ℕ) → x < 1 → nodeAt o x ≡ turnedNode opp (n (i + x))) → Gathers n i left m opp o 1 1
+  pub a-flag : (so : Bool) (p : ℕ) → n i ≡ node.Flag so p → (left ≡ 0 → ⊥) → o 0 ≡ turned opp (n i) → Gathers n i left m depth opp o 1 1
   a-flag so p q z c = an-end (flagEnd so p) (λ t l. at-flag n i t so p q l) z c
 
-  pub a-bound : (so : Bool) (x y w : ℕ) → n i ≡ node.Bound so x y w → (left ≡ 0 → ⊥) →
-      ((x : ℕ) → x < 1 → nodeAt o x ≡ turnedNode opp (n (i + x))) → Gathers n i left m opp o 1 1
+  pub a-bound : (so : Bool) (x y w : ℕ) → n i ≡ node.Bound so x y w → (left ≡ 0 → ⊥) → o 0 ≡ turned opp (n i) →
+      Gathers n i left m depth opp o 1 1
   a-bound so x y w q z c = an-end (boundEnd so x y w) (λ t l. at-bound n i t so x y w q l) z c
 
-  pub connective : (a : Bool) (k s size trees : ℕ) → n i ≡ node.Join a k s →
-      GathersAll n (i + 1) (left - 1) (joinOf a) k m opp o size trees → Gathers n i left m opp o size trees
-  unfolding gathered nodes
-  connective a k s size trees q g = record {
-    small = omega (arith, g .small);
-    few = omega (arith, g .few);
-    right = λ t l h.
+  module _ (a : Bool) (k s : ℕ) (q : n i ≡ node.Join a k s) where
+    pub too-deep : depth ≡ 0 → Gathers n i left m depth opp o 0 0
+    unfolding deep
+    too-deep z = nothing (λ t l e h d.
         let p = at-join n i t a k s q l in
-        let total : nodes t ≡ nodesAll (p .ts) + 1 = ap nodes (p .tree) in
-        rw (p .tree) (g .right (p .ts) (p .laid) (p .many) (omega arith));
-  }
+        let w : deep t ≡ suc (deepAll (p .ts)) = ap deep (p .tree) in
+        omega arith)
 
--- ---- `children`
+    pub no-child : k ≡ 0 → Gathers n i left m depth opp o 0 0
+    unfolding live
+    no-child z = nothing (λ t l e h d.
+        let p = at-join n i t a k s q l in
+        let ends : live t ≡ liveAll (p .ts) = ap live (p .tree) in
+        let none-there : liveAll (p .ts) ≡ 0 = ap liveAll (at-none (p .ts) k (p .many) z) in
+        omega arith)
 
-in-first : (j : Join) (m : ℕ) (opp : Bool) (t : Tree) (us : Forest) → m < live t →
-    gatheredIn (more t us) j m opp ≡ onto (starAll j us) (gathered t m opp)
-unfolding gathered
-in-first j m opp t us h = simp (lt-ltb _ _ h)
+    module _ (at size end : ℕ) (sought : Sought n (i + 1) (i + left) m at size end) where
+      -- what is known of a tree that is laid out: its children, and the one of them that has the end
+      record Children (t : Tree) : Type 0 where
+        ts : Forest
+        tree : t ≡ join (joinOf a) ts
+        laid : LaidAll ts n (i + 1)
+        total : nodesAll ts ≡ left - 1
+        shallow : deepAll ts ≤ depth - 1
+        nested : 1 ≤ depth
+        many : count ts ≡ k
+        among : Among ts (i + 1) m at size end
+        split : nodesAll (among .elder) + (nodes (among .t) + nodesAll (among .younger)) ≡ nodesAll ts
+        counted : count (among .elder) + (1 + count (among .younger)) ≡ count ts
+        within : Laid (among .t) n at
+        inner : deep (among .t) ≤ depth - 1
 
-in-others : (j : Join) (m : ℕ) (opp : Bool) (t : Tree) (us : Forest) → live t ≤ m →
-    gatheredIn (more t us) j m opp ≡ more (star j t) (gatheredIn us j (m - live t) opp)
-unfolding gathered
-in-others j m opp t us h = simp (le-ltb _ _ h)
+      children : (t : Tree) → Laid t n i → nodes t ≡ left → m < live t → deep t ≤ depth → Children t
+      unfolding nodes live deep Laid
+      children t l e h d =
+          let p = at-join n i t a k s q l in
+          let ts = p .ts in
+          let size-is : nodes t ≡ nodesAll ts + 1 = ap nodes (p .tree) in
+          let ends : live t ≡ liveAll ts = ap live (p .tree) in
+          let depth-is : deep t ≡ suc (deepAll ts) = ap deep (p .tree) in
+          let c = sought .right ts (p .laid) (omega arith) (omega arith) in
+          let start = c .before in
+          let deepest = ap deepAll (c .parts) ∙ onto-deep (c .elder) (more (c .t) (c .younger)) in
+          let apart = laid-onto (c .elder) (more (c .t) (c .younger)) n (i + 1) (subst (λ us. LaidAll us n (i + 1)) (c .parts) (p .laid)) in
+          record {
+            ts = ts;
+            tree = p .tree;
+            laid = p .laid;
+            total = omega arith;
+            shallow = omega arith;
+            nested = omega arith;
+            many = p .many;
+            among = c;
+            split = sym (ap nodesAll (c .parts) ∙ onto-nodes (c .elder) (more (c .t) (c .younger)));
+            counted = omega (arith, ap count (c .parts) ∙ onto-count (c .elder) (more (c .t) (c .younger)));
+            within = subst (Laid (c .t) n) start (apart .1 .0);
+            inner = omega arith;
+          }
 
-module _ (n : ℕ → Node) (i left : ℕ) (a : Bool) (k m : ℕ) (opp : Bool) where
-  pub no-child : (o : List ℕ) → k ≡ 0 → GathersAll n i left (joinOf a) k m opp o 0 0
-  unfolding gathered Laid nodes
-  no-child o z = record {
-    small = omega arith;
-    few = omega arith;
-    right = λ ts l e h. rw (at-none ts k e z) (record { laid = tt; sized = refl; counted = refl });
-  }
+      pub too-many : left - 1 - size < k - 1 → Gathers n i left m depth opp o 0 0
+      too-many far = nothing (λ t l e h d.
+          let c = children t l e h d in
+          let p = c .among in
+          omega (arith, c .total, c .many, c .split, c .counted, p .here, count-nodes (p .elder), count-nodes (p .younger)))
 
-  module _ (nz : k ≡ 0 → ⊥) (s : ℕ) (sz : (s ≡ sizeOf (n i)) × (1 ≤ s) × (s ≤ 4294967296)) where
-    pub too-long : (o : List ℕ) → left < s → GathersAll n i left (joinOf a) k m opp o 0 0
-    too-long o h = record {
-      small = omega arith;
-      few = omega arith;
-      right = λ ts l e w.
-          let p = at-more ts n i k e nz l in
-          absurd (omega (arith, sz .0, sized (p .t) n i (p .laid), p .total));
-    }
-
-    pub too-many : (o : List ℕ) → left - s < k - 1 → GathersAll n i left (joinOf a) k m opp o 0 0
-    too-many o h = record {
-      small = omega arith;
-      few = omega arith;
-      right = λ ts l e w.
-          let p = at-more ts n i k e nz l in
-          absurd (omega (arith, sz .0, sized (p .t) n i (p .laid), p .total, p .many, count-nodes (p .us)));
-    }
-
-    module _ (fit : s ≤ left) (d : ℕ) (de : d ≡ endsFrom n i s) (o₁ o₂ o : List ℕ) (size trees : ℕ) where
-      pub first-child : m < d → k - 1 ≤ left - s →
-          ((x : ℕ) → x < left - s → nodeAt o₁ x ≡ turnedNode (not a) (n (i + s + x))) →
-          Gathers n i s m opp o₂ size trees →
-          ((x : ℕ) → x < left - s → nodeAt o x ≡ nodeAt o₁ x) →
-          ((x : ℕ) → x < size → nodeAt o (left - s + x) ≡ nodeAt o₂ x) →
-          GathersAll n i left (joinOf a) k m opp o (left - s + size) (k - 1 + trees)
-      first-child lt kl c g before after = record {
-        small = omega (arith, g .small);
-        few = omega (arith, sz .1, g .few);
-        right = λ ts l e w.
-            let p = at-more ts n i k e nz l in
-            let total = p .total in
-            let same : s ≡ nodes (p .t) = sz .0 ∙ sized (p .t) n i (p .laid) in
-            let rest : nodesAll (p .us) ≡ left - s = omega arith in
-            let ends : d ≡ live (p .t) = de ∙ ap (endsFrom n i) same ∙ ends-are (p .t) n i (p .laid) in
-            let inner = g .right (p .t) (p .laid) (sym same) in
-            let others = subst (λ x. LaidAll (p .us) n (i + x)) (sym same) (p .others) in
-            let j = joinOf a in
-            let starred = star-nodesAll j (p .us) in
-            let size-is = inner .sized in
-            let us = starAll j (p .us) in
-            let vs = gathered (p .t) m opp in
-            rw (p .forest, in-first j m opp (p .t) (p .us) (omega arith)) (record {
-              laid = onto-laid us vs (nodeAt o) 0
-                  (all-copied n (nodeAt o) (i + s) 0 a (p .us)
-                  (λ x q. ap (nodeAt o) (omega arith) ∙ before x (omega arith) ∙ c x (omega arith)) others)
-                  (moveAll vs (nodeAt o₂) (nodeAt o) 0 (0 + nodesAll us)
-                  (λ x q. ap (nodeAt o) (omega arith) ∙ after x (omega arith) ∙ ap (nodeAt o₂) (omega arith)) (inner .laid));
-              sized = omega (arith, onto-nodes us vs);
-              counted = omega (arith, onto-count us vs, star-count j (p .us), p .many, inner .counted);
-            });
+      pub connective : (o₁ o₂ : ℕ → Node) (r trees : ℕ) → (left ≡ 0 → ⊥) → (k ≡ 0 → ⊥) → k - 1 ≤ left - 1 - size →
+          Siblings n (i + 1) (left - 1) at size a (depth - 1) o₁ →
+          Gathers n at size end (depth - 1) opp o₂ r trees →
+          ((x : ℕ) → x < left - 1 - size → o x ≡ o₁ x) → ((x : ℕ) → x < r → o (left - 1 - size + x) ≡ o₂ x) →
+          Gathers n i left m depth opp o (left - 1 - size + r) (k - 1 + trees)
+      unfolding gathered
+      connective o₁ o₂ r trees z nz fit s g before after = record {
+        small = omega (arith, sought .low, sought .high, g .small);
+        few = omega (arith, sought .low, sought .high, g .few);
+        right = right;
       }
+        where
+          right : (t : Tree) → Laid t n i → nodes t ≡ left → m < live t → deep t ≤ depth →
+              Stand (gathered t m opp) o (left - 1 - size + r) (k - 1 + trees)
+          right t l e h d =
+              let c = children t l e h d in
+              let p = c .among in
+              let j = joinOf a in
+              let others = onto (p .elder) (p .younger) in
+              let starred = s .right (c .ts) m end (c .laid) (c .total) (c .shallow) p in
+              let inner = g .right (p .t) (c .within) (p .here) (p .inside) (c .inner) in
+              let vs = gathered (p .t) end opp in
+              let here = p .here in
+              let total = c .total in
+              let split = c .split in
+              let size-is = inner .sized in
+              let few : nodesAll (starAll j others) ≡ left - 1 - size =
+              star-nodes j others ∙ onto-nodes (p .elder) (p .younger) ∙ omega arith in
+              let asked-of = ap (λ us. gatheredIn us j m opp) (p .parts) ∙
+              gathered-among j opp (p .t) (p .younger) end (p .inside) (p .elder) m (p .ended) in
+              rw (c .tree, asked-of)
+              (record {
+                laid = both-parts (starAll j others) vs (left - 1 - size) o₁ o₂ o few starred (inner .laid) before
+                    (λ x lt. after x (omega arith));
+                sized = omega (arith, onto-nodes (starAll j others) vs);
+                counted = omega (
+                  arith,
+                  onto-count (starAll j others) vs,
+                  star-count j others,
+                  onto-count (p .elder) (p .younger),
+                  c .counted,
+                  c .many,
+                  inner .counted,
+                );
+              })
 
-      pub further : d ≤ m →
-          ((x : ℕ) → x < s → nodeAt o₁ x ≡ turnedNode (not a) (n (i + x))) →
-          GathersAll n (i + s) (left - s) (joinOf a) (k - 1) (m - d) opp o₂ size trees →
-          ((x : ℕ) → x < s → nodeAt o x ≡ nodeAt o₁ x) →
-          ((x : ℕ) → x < size → nodeAt o (s + x) ≡ nodeAt o₂ x) →
-          GathersAll n i left (joinOf a) k m opp o (s + size) (trees + 1)
-      unfolding Laid nodes
-      further le c g before after = record {
-        small = omega (arith, g .small);
-        few = omega (arith, sz .1, g .few);
-        right = λ ts l e w.
-            let p = at-more ts n i k e nz l in
-            let total = p .total in
-            let same : s ≡ nodes (p .t) = sz .0 ∙ sized (p .t) n i (p .laid) in
-            let rest : nodesAll (p .us) ≡ left - s = omega arith in
-            let ends : d ≡ live (p .t) = de ∙ ap (endsFrom n i) same ∙ ends-are (p .t) n i (p .laid) in
-            let others = subst (λ x. LaidAll (p .us) n (i + x)) (sym same) (p .others) in
-            let inner = g .right (p .us) others (p .many) rest in
-            let j = joinOf a in
-            let starred = star-nodes j (p .t) in
-            let size-is = inner .sized in
-            let vs = gatheredIn (p .us) j (m - d) opp in
-            rw (p .forest, in-others j m opp (p .t) (p .us) (omega arith), ← ends) (record {
-              laid = (
-                one-copied n (nodeAt o) i 0 a (p .t)
-                    (λ x q. ap (nodeAt o) (omega arith) ∙ before x (omega arith) ∙ c x (omega arith)) (p .laid),
-                moveAll vs (nodeAt o₂) (nodeAt o) 0 (0 + nodes (star j (p .t)))
-                    (λ x q. ap (nodeAt o) (omega arith) ∙ after x (omega arith) ∙ ap (nodeAt o₂) (omega arith)) (inner .laid),
-              );
-              sized = omega arith;
-              counted = omega (arith, inner .counted);
-            });
-      }
+-- the same of slices: what is gathered of the child goes to the rest of the output
+pub connective-lent : (n : ℕ → Node) (i left m depth : ℕ) (opp a : Bool) (k s : ℕ) → n i ≡ node.Join a k s →
+    (at size end : ℕ) → Sought n (i + 1) (i + left) m at size end → (o₁ o₂ : List ℕ) (r trees : ℕ) →
+    (left ≡ 0 → ⊥) → (k ≡ 0 → ⊥) → k - 1 ≤ left - 1 - size → left ≤ length o₁ → length o₂ ≡ length o₁ - (left - 1 - size) →
+    Siblings n (i + 1) (left - 1) at size a (depth - 1) (nodeAt o₁) → Gathers n at size end (depth - 1) opp (nodeAt o₂) r trees →
+    Gathers n i left m depth opp (nodeAt (putMid (left - 1 - size) (length o₁ - (left - 1 - size)) o₁ o₂)) (left - 1 - size + r) (k - 1 + trees)
+connective-lent n i left m depth opp a k s q at size end sought o₁ o₂ r trees z nz fit room long sib g =
+    let d = left - 1 - size in
+    connective n i left m depth opp _ a k s q at size end sought (nodeAt o₁) (nodeAt o₂) r trees z nz fit sib g
+    (λ x lt. before-rest d (length o₁ - d) o₁ o₂ (omega arith) x lt)
+    (λ x lt. in-rest d (length o₁ - d) o₁ o₂ (omega arith) x (omega (arith, g .small, sought .low, sought .high)))
 
--- ---- the rest of a slice, lent and back
-
-part-long : (d : ℕ) (xs : List ℕ) → d ≤ length xs → length (take d xs) ≡ d
-part-long d xs h = simp length-take (omega arith)
-
-pub in-rest : (d k : ℕ) (xs ys : List ℕ) → d ≤ length xs → (x : ℕ) → x < length ys → nodeAt (putMid d k xs ys) (d + x) ≡ nodeAt ys x
-in-rest d k xs ys h x lt =
-    ap nodeOf (ap (λ y. getD (putMid d k xs ys) (y + x) 0) (sym (part-long d xs h)) ∙
-    getD-append-add (take d xs) (ys ++ postOf d k xs) x 0 ∙
-    List·getD-append ys (postOf d k xs) 0 x lt)
-
-pub before-rest : (d k : ℕ) (xs ys : List ℕ) → d ≤ length xs → (x : ℕ) → x < d → nodeAt (putMid d k xs ys) x ≡ nodeAt xs x
-before-rest d k xs ys h x lt =
-    let e = part-long d xs h in
-    ap nodeOf (List·getD-append (take d xs) (ys ++ postOf d k xs) 0 x (omega arith) ∙ getD-take d xs x 0 lt)
+-- a word put first: that of an end, or its opposite's
+pub end-put : (s out : List ℕ) (i : ℕ) (opp : Bool) (v w : ℕ) → 1 ≤ length out → v ≡ getD s i 0 → nodeOf w ≡ turned opp (nodeOf v) →
+    nodeAt (set out 0 w) 0 ≡ turned opp (nodeAt s i)
+end-put s out i opp v w room e h = put-first out w room (h ∙ ap (λ x. turned opp (nodeOf x)) e)
 
 -- ---- `ask`
 
 pub large : (n : ℕ → Node) (size m : ℕ) (opp : Bool) (o : List ℕ) → 64 ≤ size → Asks n size m opp o 0 o
-large n size m opp o h = record { small = omega arith; long = refl; right = λ t l e near room. absurd (omega arith) }
+large n size m opp o h = record { small = omega arith; long = refl; right = λ t l e near room lt d. absurd (omega arith) }
 
 pub no-room : (n : ℕ → Node) (size m : ℕ) (opp : Bool) (o : List ℕ) → length o ≤ size → Asks n size m opp o 0 o
-no-room n size m opp o h = record { small = omega arith; long = refl; right = λ t l e near room. absurd (omega arith) }
+no-room n size m opp o h = record { small = omega arith; long = refl; right = λ t l e near room lt d. absurd (omega arith) }
 
 pub asks : (n : ℕ → Node) (size m : ℕ) (opp : Bool) (o₀ o₁ o : List ℕ) (k s trees : ℕ) → size < 64 → size < length o₀ →
-    length o₁ ≡ length o₀ - 1 → length o ≡ length o₀ → Gathers n 0 size m opp o₁ s trees →
+    length o₁ ≡ length o₀ - 1 → length o ≡ length o₀ → Gathers n 0 size m deepest opp (nodeAt o₁) s trees →
     o ≡ set (putMid 1 k o₀ o₁) 0 (wordOf (node.Join true trees s)) → Asks n size m opp o₀ (s + 1) o
 unfolding Laid nodes
 asks n size m opp o₀ o₁ o k s trees near room kept long g e = record {
   small = omega (arith, g .small);
   long = long;
-  right = λ t l h x y.
-      let inner = g .right t l h in
+  right = λ t l h x y lt d.
+      let inner = g .right t l h lt d in
       let size-is = inner .sized in
       let count-is = inner .counted in
       let back = putMid 1 k o₀ o₁ in

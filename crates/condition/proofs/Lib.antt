@@ -2,9 +2,11 @@
 pub mod Naturals
 pub mod Steps
 pub mod Negation
+pub mod Depth
 pub mod Round
 pub mod Sound
 pub mod Moves
+pub mod Places
 pub mod Reading
 pub mod Small
 pub mod Folding

@@ -129,7 +129,7 @@ subℕ-sides m n =
     (λ e. rw e (omega (arith, ltb-true m n e)))
     (λ e. rw e (omega (arith, ltb-false m n e)))
 
-+ℤ-sides : (x y : ℤ) → up (x +ℤ y) + (down x + down y) ≡ up x + up y + down (x +ℤ y)
+pub +ℤ-sides : (x y : ℤ) → up (x +ℤ y) + (down x + down y) ≡ up x + up y + down (x +ℤ y)
 +ℤ-sides (pos a) (pos b) = omega arith
 +ℤ-sides (pos a) (negsuc b) = omega (arith, subℕ-sides a (suc b))
 +ℤ-sides (negsuc a) (pos b) = omega (arith, subℕ-sides b (suc a))

@@ -7,8 +7,9 @@ use native.Mathlib.Omega.{arith}
 use lib.Dec.{ltb}
 use borrow.Table.Steps.{cases}
 use borrow.Author.Tests.{ltb-true, ltb-false}
+use Rattle.condition.specs.Limits.{mostEnds}
 use Rattle.condition.specs.Meaning.{Tree, plain, leaf, join, Forest, none, more, ends, endsAll, count}
-use Rattle.condition.specs.Meaning.{EndWithin, Formed, FormedAll}
+use Rattle.condition.specs.Meaning.{EndWithin, Formed, FormedAll, Within}
 use Rattle.condition.specs.Folding.{fold, live, liveAll}
 use Rattle.condition.specs.Critical.{endAt, endIn, put, putIn}
 use Rattle.condition.proofs.Folding.{fold-live, Inside, fold-inside}
@@ -106,6 +107,11 @@ unfolding Formed
 cut-inside m t i b w =
     fold-inside m (put t i (plain b))
     (record { formed = put-formed t i (plain b) (w .formed) tt; few = omega (arith, put-ends t i b, w .few) })
+
+pub cut-within : (t : Tree) (i : ℕ) (b : Bool) → Within t → Within (fold (put t i (plain b)))
+cut-within t i b w =
+    let h = cut-inside mostEnds t i b (record { formed = w .formed; few = w .few }) in
+    record { formed = h .formed; few = h .few }
 
 pub cut-live : (t : Tree) (i : ℕ) (b : Bool) → i < live t → live (fold (put t i (plain b))) < live t
 cut-live t i b h = omega (arith, put-live t i b h, fold-live (put t i (plain b)))

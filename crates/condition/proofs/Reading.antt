@@ -5,15 +5,16 @@ use mathlib.Core.Path.{_≡_, refl, sym, ap, _∙_}
 use mathlib.Core.List.{List, [], _∷_, _++_, append-nil}
 use native.Mathlib.Omega.{arith}
 use lib.Dec.{ltb}
-use lib.IntN.{pos}
 use lib.ListN.{length, getD, length-append}
 use borrow.Table.Steps.{cases}
 use borrow.Author.Tests.{ltb-true, lt-ltb}
-use Rattle.condition.specs.Limits.{mostEnds, lastNumber, largestBound, groups}
+use Rattle.condition.specs.Limits.{mostEnds, deepest, lastNumber, groups}
 use Rattle.condition.specs.Meaning.{End, is, isNot, atMost, above, Join, all, any, Tree, plain, leaf, join, Forest, none, more}
 use Rattle.condition.specs.Meaning.{ends, endsAll, count, EndWithin, Formed, FormedAll, Within}
 use Rattle.condition.specs.Bytes.{Octets, groupsOf, number, written, endBytes, joinTag, plainTag, bytes, bytesAll}
 use Rattle.condition.specs.Reading.{Reading, got, refused, readTree, tree, refusal, whole, read}
+use Rattle.condition.specs.Places.{Follows}
+use Rattle.condition.proofs.Depth.{tall, tall-within}
 use Rattle.condition.proofs.Steps.{Yields}
 use Rattle.condition.proofs.Round.{ends-each, tree-read}
 use Rattle.condition.proofs.Sound.{TreeWritten, tree-written}
@@ -100,23 +101,16 @@ record Known (end n p : ℕ) : Type 0 where
   least : 1 ≤ n
   most : n ≤ 8
   one : n ≡ 1 → p ≡ end
-  eight : n ≡ 8 → p < end
 
 whole-known : (r : Reading Tree) (end n p : ℕ) → Ended r end → whole r ≡ refusal n p → Known end n p
 whole-known (got t [] at) end n p h e = let z : _≡_ {A = ℕ} 0 1 = cc in absurd (omega arith)
 whole-known (got t (b ∷ l) at) end n p h e =
     let answer : n ≡ 8 = cc in
-    let place : p ≡ at = cc in
-    record { least = omega arith; most = omega arith; one = λ z. absurd (omega arith); eight = λ z. omega arith }
+    record { least = omega arith; most = omega arith; one = λ z. absurd (omega arith) }
 whole-known (refused m q) end n p h e =
     let answer : n ≡ m = cc in
     let place : p ≡ q = cc in
-    record {
-      least = omega (arith, h .0);
-      most = omega (arith, h .1);
-      one = λ z. place ∙ h .2 (omega arith);
-      eight = λ z. absurd (omega (arith, h .1));
-    }
+    record { least = omega (arith, h .0); most = omega (arith, h .1); one = λ z. place ∙ h .2 (omega arith) }
 
 known : (s : List ℕ) (n p : ℕ) → read s ≡ refusal n p → Known (length s) n p
 unfolding read
@@ -130,9 +124,33 @@ refusals s n p e = (known s n p e .least, known s n p e .most)
 pub ended-at-end : (s : List ℕ) (p : ℕ) → read s ≡ refusal 1 p → p ≡ length s
 ended-at-end s p e = known s 1 p e .one refl
 
--- answer 8: a byte stands at the place
-pub after-place : (s : List ℕ) (p : ℕ) → read s ≡ refusal 8 p → p < length s
-after-place s p e = known s 8 p e .eight refl
+-- answer 8: bytes that follow a tree are refused, at the first of them
+pub after-tree : (t : Tree) (b : ℕ) (l : List ℕ) → Within t → read (bytes t ++ b ∷ l) ≡ refusal 8 (length (bytes t))
+unfolding read
+after-tree t b l w =
+    ap whole (tree-read t mostEnds 0 (w .formed) (omega (arith, w .few)) (omega arith) (b ∷ l) 0) ∙ ap (refusal 8) (omega arith)
+
+whole-follows : (r : Reading Tree) (s : List ℕ) (p : ℕ) → Yields r (TreeWritten 0 s 0) → Ended r (length s) → whole r ≡ refusal 8 p →
+    Follows s p
+whole-follows (got t [] at) s p w h e = let z : _≡_ {A = ℕ} 0 1 = cc in absurd (omega arith)
+whole-follows (got t (b ∷ l) at) s p w h e =
+    let place : p ≡ at = cc in
+    record {
+      before = t;
+      first = b;
+      later = l;
+      within = record { formed = w .good .0; few = omega (arith, w .good .1) };
+      made = w .took .from;
+      after = omega (arith, w .took .to);
+    }
+whole-follows (refused n q) s p w h e = let answer : n ≡ 8 = cc in absurd (omega (arith, h .1))
+
+-- and refused with 8 are no others
+pub after-place : (s : List ℕ) (p : ℕ) → Octets s → read s ≡ refusal 8 p → Follows s p
+unfolding read
+after-place s p o e =
+    whole-follows (readTree mostEnds s 0 0) s p (tree-written mostEnds s 0 0 (omega arith) o)
+    (tree-ends (length s) mostEnds 0 s 0 (omega arith)) e
 
 pub number-length : (g n : ℕ) → length (groupsOf g n) ≤ g
 unfolding groupsOf
@@ -180,19 +198,7 @@ mutual
 pub longest : (t : Tree) → Within t → length (bytes t) ≤ 190
 longest t w = omega (arith, tree-length t (w .formed) (w .few))
 
--- one that has them: n connectives one inside the other, all ends of 6 bytes
-abbrev wide : Tree
-wide = leaf (atMost 0 0 (pos largestBound))
-
-tall : ℕ → Tree
-tall zero = wide
-tall (suc n) = join all (more wide (more (tall n) none))
-
-tall-formed : (n : ℕ) → Formed (tall n)
-unfolding tall Formed
-tall-formed zero = omega arith
-tall-formed (suc n) = (omega arith, (omega arith, (tall-formed n, tt)))
-
+-- one that has them: all ends of 6 bytes, each connective of two
 pub longest-met : (t : Tree) × Within t × (length (bytes t) ≡ 190)
 unfolding tall ends bytes endBytes groupsOf
-longest-met = (tall 23, record { formed = tall-formed 23; few = omega arith }, refl)
+longest-met = (tall deepest, tall-within, refl)

@@ -29,7 +29,7 @@ took-one : (b : ℕ) (l : List ℕ) (at : ℕ) → Octets (b ∷ l) → Took (b 
 unfolding Octets
 took-one b l at o = record { from = refl; to = refl; rest = o .1 }
 
-took-again : {s s' l l1 l2 : List ℕ} {at at1 at2 : ℕ} → Took s l at l1 at1 → Took s' l1 at1 l2 at2 → Took (s ++ s') l at l2 at2
+pub took-again : {s s' l l1 l2 : List ℕ} {at at1 at2 : ℕ} → Took s l at l1 at1 → Took s' l1 at1 l2 at2 → Took (s ++ s') l at l2 at2
 took-again {s} {s'} m n =
     record {
       from = m .from ∙ ap (λ l. s ++ l) (n .from) ∙ sym (append-assoc s s' _);
@@ -86,21 +86,22 @@ number-written (suc g) first (b ∷ l) at h o =
     (λ e. yields-then (numberFrom g first l (at + 1)) _ _ P (number-written g first l (at + 1) (omega arith) (o .1))
     (λ n l' at' w. byte-before g first b l at n l' at' h o (ltb-false b 128 e) w))
 
-checked-written : (test : ℕ → Bool) (Good : ℕ → Type 0) → ((n : ℕ) → test n ≡ true → Good n) →
+checked-written : (test : ℕ → Bool) (Good : ℕ → Type 0) → ((n : ℕ) → n < 128 ^ groups → test n ≡ true → Good n) →
     (answer : ℕ) (l : List ℕ) (at : ℕ) → Octets l → Yields (checked test answer l at) (WasWritten Good number l at)
 checked-written test Good passed answer l at o =
     let P = WasWritten Good number l at in
     yields-then (numberFrom groups at l at) _ _ P (number-written groups at l at (omega arith) o)
-    (λ n l' at' w. yields-cond (test n) _ _ P (λ e. record { good = passed n e; took = w .took }) (λ e. tt))
+    (λ n l' at' w. yields-cond (test n) _ _ P (λ e. record { good = passed n (w .good .0) e; took = w .took }) (λ e. tt))
 
 pub upTo-written : (most answer : ℕ) (l : List ℕ) (at : ℕ) → Octets l →
     Yields (upTo most answer l at) (WasWritten (λ n. n ≤ most) number l at)
 unfolding upTo
-upTo-written most answer l at o = checked-written (λ n. leb n most) (λ n. n ≤ most) (λ n. leb-true n most) answer l at o
+upTo-written most answer l at o = checked-written (λ n. leb n most) (λ n. n ≤ most) (λ n fits. leb-true n most) answer l at o
 
-pub count-written : (l : List ℕ) (at : ℕ) → Octets l → Yields (readCount l at) (WasWritten (λ k. 2 ≤ k) number l at)
+pub count-written : (l : List ℕ) (at : ℕ) → Octets l → Yields (readCount l at) (WasWritten (λ k. (2 ≤ k) × (k < 128 ^ groups)) number l at)
 unfolding readCount
-count-written l at o = checked-written (λ k. leb 2 k) (λ k. 2 ≤ k) (λ k. leb-true 2 k) 4 l at o
+count-written l at o =
+    checked-written (λ k. leb 2 k) (λ k. (2 ≤ k) × (k < 128 ^ groups)) (λ k fits e. (leb-true 2 k e, fits)) 4 l at o
 
 -- Ends. Tags come in twos
 of-two : (P : ℕ → Type 0) (a g : ℕ) → (a ≤ g) × (g < a + 2) → P a → P (a + 1) → P g
@@ -190,7 +191,7 @@ module _ (kids : ℕ → List ℕ → ℕ → Reading Forest) (others : ℕ) (ki
       (λ e. yields-then (kids k l1 at1) _ _ P (kids-written k l1 at1 (ltb-false mostEnds (others + k) e) (w1 .took .rest)) (λ ts l2 at2 w2.
       let counted = w2 .good .0 in
       record {
-        good = ((rw counted (w1 .good), w2 .good .1), w2 .good .2);
+        good = ((rw counted (w1 .good .0), w2 .good .1), w2 .good .2);
         took = rw (join-spelt g ts h, counted) (took-again tag (took-again (w1 .took) (w2 .took)));
       })))
 

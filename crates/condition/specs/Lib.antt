@@ -1,8 +1,10 @@
 -- What a condition is, means and how it is written, in document 01's order: read these files first.
 pub mod Limits
 pub mod Meaning
+pub mod Depth
 pub mod Bytes
 pub mod Reading
+pub mod Places
 pub mod Satisfying
 pub mod Folding
 pub mod Critical

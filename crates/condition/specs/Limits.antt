@@ -1,9 +1,13 @@
 -- The limits of document 01, each named once.
-use Prim.Native.Nat.{ℕ}
+use Prim.Native.Nat.{ℕ, _-_}
 
 -- "A tree has at most 24 ends, constants counted."
 abbrev pub mostEnds : ℕ
 mostEnds = 24
+
+-- "So at most 23 connectives, and a tree may nest 23 connectives deep."
+abbrev pub deepest : ℕ
+deepest = mostEnds - 1
 
 -- "Booleans are named 0 to 31."
 abbrev pub lastBoolean : ℕ

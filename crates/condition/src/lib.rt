@@ -2,6 +2,8 @@
 
 pub const MOST_ENDS: u32 = 24;
 
+pub const DEEPEST: u32 = MOST_ENDS - 1;
+
 pub const LAST_BOOLEAN: u32 = 31;
 
 pub const LAST_NUMBER: u32 = 15;

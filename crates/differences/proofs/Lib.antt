@@ -1,4 +1,4 @@
--- Laws of closed tables, for the crates above.
+-- Laws of closed tables and of chains, for the crates above.
 pub mod Closed
 pub mod Lowered
 pub mod Bounds
@@ -8,4 +8,5 @@ pub mod Row
 pub mod Rows
 pub mod Shown
 pub mod Unique
+pub mod Chains
 pub mod Sets

@@ -108,7 +108,7 @@ module _ {n : ℕ → Node} {size q many : ℕ} {known known' : List ℕ} (few :
   recalled one =
       record {
         few = few;
-        right = λ t laid same near formed less k.
+        right = λ t laid same near within less k.
             let k' = learns .right t laid same near k in
             (sym (k' .no q less one), k');
       }
@@ -118,6 +118,6 @@ module _ {n : ℕ → Node} {size q many : ℕ} {known known' : List ℕ} (few :
   searched long a e =
       record {
         few = few;
-        right = λ t laid same near formed less k.
-            (sym (ap yes e) ∙ a .right long t laid same near formed (omega arith), learns .right t laid same near k);
+        right = λ t laid same near within less k.
+            (sym (ap yes e) ∙ a .right long t laid same near within (omega arith), learns .right t laid same near k);
       }

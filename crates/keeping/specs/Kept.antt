@@ -7,7 +7,7 @@ use mathlib.Core.Bool.{Bool, false}
 use lib.Dec.{eqb}
 use lib.IntN.{ℤ}
 use lib.ListN.{length, getD}
-use Rattle.condition.specs.Meaning.{Tree, Formed}
+use Rattle.condition.specs.Meaning.{Tree, Within}
 use Rattle.condition.specs.Folding.{live}
 use Rattle.condition.specs.Deciding.{sat}
 use Rattle.condition.specs.Sweep.{Stage, stage, answer}
@@ -42,5 +42,5 @@ pub record Room (bits : List ℕ) (numbers : List ℤ) (known : List ℕ) (many 
 
 pub record Replies (n : ℕ → Node) (size q : ℕ) (known : List ℕ) (yes : Bool) (many : ℕ) (known' : List ℕ) : Type 0 where
   pub few : many < 32
-  pub right : (t : Tree) → Laid t n 0 → nodes t ≡ size → size < 64 → Formed t → q < 2 * live t → Known t known →
+  pub right : (t : Tree) → Laid t n 0 → nodes t ≡ size → size < 64 → Within t → q < 2 * live t → Known t known →
       (yes ≡ answer sat (numbered t q)) × Known t known'

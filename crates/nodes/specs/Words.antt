@@ -20,7 +20,7 @@ wordOf (Bound so x y w) = packed (cond so 6 7) x y w
 abbrev pub byTag : ℕ → ℕ → ℕ → ℕ → Node
 byTag g a b c =
     cond (ltb g 2) (Plain (eqb g 1))
-    (cond (ltb g 4) (Join (eqb g 2) a b) (cond (ltb g 6) (Flag (eqb g 4) a) (Bound (eqb g 6) a b c)))
+    (cond (ltb g 4) (Join (eqb g 2) a b) (cond (ltb g 6) (Flag (eqb g 4) a) (Bound (eqb (g % 2) 0) a b c)))
 
 unfoldable pub nodeOf : ℕ → Node
 nodeOf w = byTag (w % 256) (w / 256 % 256) (w / 65536 % 256) (w / 4294967296)
@@ -28,6 +28,13 @@ nodeOf w = byTag (w % 256) (w / 256 % 256) (w / 65536 % 256) (w / 4294967296)
 -- the node at i of a slice; past its end plain false, which is 0
 abbrev pub nodeAt : List ℕ → ℕ → Node
 nodeAt l i = nodeOf (getD l i 0)
+
+-- the same node of the negation: "its negation" of an end, `and` for `or`, true for false
+abbrev pub opposed : Node → Node
+opposed (Plain b) = Plain (not b)
+opposed (Join all k s) = Join (not all) k s
+opposed (Flag so p) = Flag (not so) p
+opposed (Bound so x y w) = Bound (not so) x y w
 
 -- the nodes of the tree that begins with a node
 abbrev pub sizeOf : Node → ℕ

@@ -3,8 +3,8 @@
 ghost use mathlib.Core.Path.{_≡_};
 ghost use Prim.Native.Nat.{_+_, _≤_, _<_};
 ghost use mathlib.Core.Bool.{cond};
-ghost use lib.ListN.{set};
-ghost use Rattle.nodes.specs.Words.{packed, nodeOf, wordOf, nodeAt, sizeOf, countOf};
+ghost use lib.ListN.{getD, set};
+ghost use Rattle.nodes.specs.Words.{packed, nodeOf, wordOf, nodeAt, opposed, sizeOf, countOf};
 
 // A tree of 24 ends has at most 47 nodes, a question about one of its ends at most one more.
 pub const ROOM: usize = 64;
@@ -60,17 +60,31 @@ fn node_of(w: u64) -> Node
     if g < 6 {
         return Node::Flag(g == 4, a);
     }
-    Node::Bound(g == 6, a, b, c)
+    Node::Bound(g % 2 == 0, a, b, c)
+}
+
+// The word at i; past the end that of plain false.
+pub fn word_at(ns: &[u64], i: usize) -> u64
+    ensures { λ r. ⌜ r ≡ getD (now (ns .entry)) i 0 ⌝ }
+{
+    if i < ns.len() {
+        return ns[i];
+    }
+    0
+}
+
+// The word of the same node in the tree's negation: tags come in twos, which differ in the lowest bit.
+pub fn opposed_word(w: u64) -> u64
+    ensures { λ r. ⌜ nodeOf r ≡ opposed (nodeOf w) ⌝ }
+{
+    if w % 2 == 0 { w + 1 } else { w - 1 }
 }
 
 // The node at i; past the end plain false.
 pub fn node_at(ns: &[u64], i: usize) -> Node
     ensures { λ r. ⌜ r ≡ nodeAt (now (ns .entry)) i ⌝ }
 {
-    if i < ns.len() {
-        return node_of(ns[i]);
-    }
-    Node::Plain(false)
+    node_of(word_at(ns, i))
 }
 
 // Puts a node at i; past the end it puts nothing.

@@ -13,13 +13,13 @@ use lib.IntN.{ℤ}
 use lib.ListN.{length, getD, replicate, length-replicate, getD-replicate, List·getD-eq-default}
 use borrow.Table.Steps.{cases}
 use borrow.Author.Tests.{eqb-true, eqb-false, leb-true, leb-false, eq-eqb, ne-eqb, le-leb, lt-leb}
-use Rattle.condition.specs.Meaning.{Tree, plain, Formed}
+use Rattle.condition.specs.Meaning.{Tree, plain, Within}
 use Rattle.condition.specs.Folding.{fold, live}
 use Rattle.condition.specs.Critical.{put}
 use Rattle.condition.specs.Deciding.{sat}
 use Rattle.condition.specs.Sweep.{Stage, stage, start, over, on, run, answer, next, sweep, trimmed}
-use Rattle.condition.proofs.Folding.{fold-formed}
-use Rattle.condition.proofs.Putting.{split, put-formed}
+use Rattle.condition.proofs.Folding.{fold-within}
+use Rattle.condition.proofs.Putting.{split, cut-within}
 use Rattle.condition.proofs.Run.{Reached, advance, stopped}
 use Rattle.nodes.specs.declared.Node.{Node}
 use Rattle.nodes.specs.Words.{nodeAt}
@@ -36,7 +36,7 @@ pub record At (t : Tree) (tree : List ℕ) (size end : ℕ) (known : List ℕ) (
   pub laid : Laid present (nodeAt tree) 0
   pub sized : nodes present ≡ size
   pub few : size < 64
-  pub formed : Formed present
+  pub limits : Within present
   pub ends : end ≡ 2 * live present
   pub knows : Known present known
 
@@ -46,7 +46,7 @@ pub record Goes (n : ℕ → Node) (nodes₀ ration : ℕ) (tree : List ℕ) (si
   pub room : Room bits numbers known many
   pub near : end ≤ 128
   pub within : asked ≤ ration
-  pub stands : (t : Tree) → Laid t n 0 → nodes t ≡ nodes₀ → nodes₀ < 64 → Formed t → At t tree size end known q asked
+  pub stands : (t : Tree) → Laid t n 0 → nodes t ≡ nodes₀ → nodes₀ < 64 → Within t → At t tree size end known q asked
 
 -- ---- questions by number
 
@@ -85,7 +85,7 @@ module _ {n : ℕ → Node} {k ration : ℕ} {tree : List ℕ} {size end : ℕ} 
     (goes : Goes n k ration tree size end bits numbers known many q asked) (less : asked < ration) (more : q < end) {v : Bool}
     {many' : ℕ} {known' : List ℕ} (replies : Replies (nodeAt tree) size q known v many' known') where
   right : {t : Tree} (a : At t tree size end known q asked) → (v ≡ answer sat (numbered (a .present) q)) × Known (a .present) known'
-  right a = replies .right (a .present) (a .laid) (a .sized) (a .few) (a .formed) (omega (arith, a .ends)) (a .knows)
+  right a = replies .right (a .present) (a .laid) (a .sized) (a .few) (a .limits) (omega (arith, a .ends)) (a .knows)
 
   stepped : {t : Tree} (a : At t tree size end known q asked) {s : Stage} → next sat (numbered (a .present) q) ≡ s →
       Reached over (next sat) (asked + 1) (start (fold t)) s
@@ -102,8 +102,8 @@ module _ {n : ℕ → Node} {k ration : ℕ} {tree : List ℕ} {size end : ℕ} 
     room = held;
     near = goes .near;
     within = omega arith;
-    stands = λ t l same few formed.
-        let a = goes .stands t l same few formed in
+    stands = λ t l same few limits.
+        let a = goes .stands t l same few limits in
         let so : answer sat (numbered (a .present) q) ≡ false = sym (right a .0) ∙ e in
         let go : next sat (numbered (a .present) q) ≡ on (a .present) (q / 2) (eqb (q % 2) 1) = simp so in
         record {
@@ -112,7 +112,7 @@ module _ {n : ℕ → Node} {k ration : ℕ} {tree : List ℕ} {size end : ℕ} 
           laid = a .laid;
           sized = a .sized;
           few = a .few;
-          formed = a .formed;
+          limits = a .limits;
           ends = a .ends;
           knows = right a .1;
         };
@@ -123,14 +123,14 @@ module _ {tree : List ℕ} {size room r end : ℕ} {bits : List ℕ} {numbers : 
     (wide : 64 ≤ room) (lives : Lives (nodeAt tree) size r) (twice : end ≡ 2 * r) (blank : (t : Tree) → Known t known)
     (held : Room bits numbers known many) where
   anew : {t : Tree} (u : Tree) (asked : ℕ) → Reached over (next sat) asked (start (fold t)) (start u) →
-      Laid u (nodeAt tree) 0 × (size ≡ nodes u) → size < 64 → Formed u → At t tree size end known 0 asked
-  anew u asked reached g few formed = record {
+      Laid u (nodeAt tree) 0 × (size ≡ nodes u) → size < 64 → Within u → At t tree size end known 0 asked
+  anew u asked reached g few limits = record {
     present = u;
     reached = reached;
     laid = g .0;
     sized = sym (g .1);
     few = few;
-    formed = formed;
+    limits = limits;
     ends = twice ∙ ap (λ x. 2 * x) (lives .right u (g .0) (sym (g .1)) (omega arith));
     knows = blank u;
   }
@@ -143,8 +143,8 @@ module _ {tree : List ℕ} {size room r end : ℕ} {bits : List ℕ} {numbers : 
     room = held;
     near = omega (arith, lives .few);
     within = omega arith;
-    stands = λ t l e few formed.
-        anew (fold t) 0 refl (f .is t l e (omega arith) wide (omega arith)) (omega (arith, f .small)) (fold-formed t formed);
+    stands = λ t l e few limits.
+        anew (fold t) 0 refl (f .is t l e (omega arith) wide (omega arith)) (omega (arith, f .small)) (fold-within t limits);
   }
 
   -- a yes
@@ -154,21 +154,21 @@ module _ {tree : List ℕ} {size room r end : ℕ} {bits : List ℕ} {numbers : 
       {v : Bool} → Replies (nodeAt old) size₀ q known₀ v many known₁ → v ≡ true →
       Folded (nodeAt old) size₀ (q / 2 + 1) (eqb (q % 2) 0) room (nodeAt tree) size →
       Goes n k ration tree size end bits numbers known many 0 (asked + 1)
-  unfolding next Formed
+  unfolding next
   cuts {q = q} {asked = asked} goes less more replies e f = record {
     long = long;
     room = held;
     near = omega (arith, lives .few);
     within = omega arith;
-    stands = λ t l same few formed.
-        let a = goes .stands t l same few formed in
+    stands = λ t l same few limits.
+        let a = goes .stands t l same few limits in
         let u = put (a .present) (q / 2) (plain (not (eqb (q % 2) 1))) in
         let so : answer sat (numbered (a .present) q) ≡ true = sym (right goes less more replies a .0) ∙ e in
         let go : next sat (numbered (a .present) q) ≡ start (fold u) = simp so in
         let g = f .is (a .present) (a .laid) (a .sized) (omega (arith, a .few)) wide (omega (arith, a .ends)) in
         let g' : Laid (fold u) (nodeAt tree) 0 × (size ≡ nodes (fold u)) = rw (add-one, first-is q) at g in
         anew (fold u) (asked + 1) (stepped goes less more replies a go) g' (omega (arith, f .small, a .few))
-        (fold-formed u (put-formed (a .present) (q / 2) (plain (not (eqb (q % 2) 1))) (a .formed) tt));
+        (cut-within (a .present) (q / 2) (not (eqb (q % 2) 1)) (a .limits));
   }
 
 -- ---- the end: no question is left, or the ration is used up
@@ -192,7 +192,7 @@ module _ {n : ℕ → Node} {k ration : ℕ} {tree : List ℕ} {size end : ℕ} 
   pub ended : (ration ≤ asked) ⊎ (end ≤ q) → Sweeps n k ration tree size asked (leb end q)
   unfolding trimmed sweep
   ended h = record {
-    right = λ t l e few formed.
-        let a = goes .stands t l e few formed in
+    right = λ t l e few limits.
+        let a = goes .stands t l e few limits in
         rw (ran h a) (record { laid = a .laid; sized = sym (a .sized); count = refl; over = over-is a });
   }

@@ -3,7 +3,7 @@ use Prim.Native.Nat.{ℕ, _<_}
 use mathlib.Core.Path.{_≡_}
 use mathlib.Core.List.{List}
 use mathlib.Core.Bool.{Bool}
-use Rattle.condition.specs.Meaning.{Tree, Formed}
+use Rattle.condition.specs.Meaning.{Tree, Within}
 use Rattle.condition.specs.Sweep.{Answer, trimmed}
 use Rattle.nodes.specs.declared.Node.{Node}
 use Rattle.nodes.specs.Words.{nodeAt}
@@ -16,4 +16,4 @@ pub record Says (a : Answer) (tree : List ℕ) (size asked : ℕ) (finished : Bo
   pub over : finished ≡ a .finished
 
 pub record Sweeps (n : ℕ → Node) (size ration : ℕ) (tree : List ℕ) (size' asked : ℕ) (finished : Bool) : Type 0 where
-  pub right : (t : Tree) → Laid t n 0 → nodes t ≡ size → size < 64 → Formed t → Says (trimmed t ration) tree size' asked finished
+  pub right : (t : Tree) → Laid t n 0 → nodes t ≡ size → size < 64 → Within t → Says (trimmed t ration) tree size' asked finished

@@ -68,7 +68,7 @@ module _ (s : List ℕ) (ration : ℕ) (out : List ℕ) (ns : List ℕ) (x : Hel
     reached : (t : Tree) → read s ≡ tree t → Holds ns (held.Tree n) (tree t) → Reached t
     reached t same h =
         let within = read-written s t (octets s octet) same .1 in
-        let says = swept .right t (h .0) (sym (h .1)) (h .2) (within .formed) in
+        let says = swept .right t (h .0) (sym (h .1)) (h .2) within in
         let inside = trimmed-within t ration within in
         let few = nodes-few (trimmed t ration .tree) (inside .formed) in
         record { says = says; small = omega (arith, few, inside .few, says .sized) }

@@ -1,11 +1,11 @@
--- `asking::ends` meets its contract: after k nodes their ends are counted (Turned.antt).
+-- `asking::ends` meets its contract: after k nodes their ends are counted (EndsCounted.antt).
 use Prim.Native.Nat.{_-_}
 use mathlib.Core.Path.{ap, _∙_}
 use native.Mathlib.Omega.{arith}
 use borrow.Author.Needs.{needs}
 use Rattle.nodes.specs.Words.{nodeAt}
 use Rattle.asking.specs.Asked.{endsFrom}
-use Rattle.asking.proofs.Turned.{Counted, counted-none, counted-more, at-most-one}
+use Rattle.asking.proofs.EndsCounted.{Counted, counted-none, counted-more, at-most-one}
 use Rattle.asking.proofs.ends.Statement.{statement}
 use Rattle.asking.proofs.ends.Tie as tie
 

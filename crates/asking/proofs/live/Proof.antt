@@ -1,6 +1,6 @@
--- `asking::live` meets its contract: the ends of a tree are those of its nodes (Turned.antt).
+-- `asking::live` meets its contract: the ends of a tree are those of its nodes (EndsCounted.antt).
 use native.Mathlib.Omega.{arith}
-use Rattle.asking.proofs.Turned.{lives}
+use Rattle.asking.proofs.EndsCounted.{lives}
 use borrow.Author.Needs.{needs}
 use Rattle.asking.proofs.live.Statement.{statement}
 use Rattle.asking.proofs.live.Tie as tie
