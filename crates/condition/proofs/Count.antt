@@ -11,7 +11,7 @@ use Rattle.condition.specs.Meaning.{Tree, plain}
 use Rattle.condition.specs.Folding.{fold, live}
 use Rattle.condition.specs.Critical.{put, NonConstraining, NonRelaxing, Firm}
 use Rattle.condition.specs.Deciding.{sat}
-use Rattle.condition.specs.Sweep.{Stage, stage, start, over, cut, on, answer, next, Ran, run, sweep, trimmed, needs}
+use Rattle.condition.specs.Sweep.{Stage, stage, start, over, cut, on, answer, next, run, sweep, Answer, reported, trimmed, needs}
 use Rattle.condition.specs.Counting.{FirmBefore, Sweeps, none-cut, cut-one, cut-two}
 use Rattle.condition.proofs.Putting.{split, cut-live}
 use Rattle.condition.proofs.Run.{Reached, advance, ahead}
@@ -56,6 +56,9 @@ module _ (t : Tree) where
       let one = at-on (2 * i) i false (walk i (omega arith) (λ m l. f m (omega arith))) h (no-one i h (firm .0)) in
       rw e at (at-on (suc (2 * i)) i true one h (no-two i h (firm .1)))
 
+  walk-half : (i : ℕ) → i < live t → FirmBefore t i → (¬ NonConstraining t i) → At (suc (2 * i)) (stage t i true)
+  walk-half i h f n = at-on (2 * i) i false (walk i (omega arith) f) h (no-one i h n)
+
   walk-one : (i : ℕ) → i < live t → FirmBefore t i → NonConstraining t i → At (2 * suc i - 1) (cut (stage t i false))
   walk-one i h f c =
       let e : suc (2 * i) ≡ 2 * suc i - 1 = omega arith in
@@ -64,38 +67,66 @@ module _ (t : Tree) where
   walk-two : (i : ℕ) → i < live t → FirmBefore t i → (¬ NonConstraining t i) → NonRelaxing t i → At (2 * suc i) (cut (stage t i true))
   walk-two i h f n c =
       let e : suc (suc (2 * i)) ≡ 2 * suc i = omega arith in
-      let one = at-on (2 * i) i false (walk i (omega arith) f) h (no-one i h n) in
-      rw e at (at-cut (suc (2 * i)) i true one h (two-is sat sat-is t i h .1 c))
+      rw e at (at-cut (suc (2 * i)) i true (walk-half i h f n) h (two-is sat sat-is t i h .1 c))
 
--- A course is what the machine does
+-- `Comes t n u f`: n questions about the folded tree t come to the tree u, and f says whether the work is over
 
-record Finish (t : Tree) (n : ℕ) (u : Tree) : Type 0 where
+pub record Comes (t : Tree) (n : ℕ) (u : Tree) (f : Bool) : Type 0 where
   last : Stage
   stepped : Reached over (next sat) n (start t) last
-  stops : over last ≡ true
-  leaves : last .tree ≡ u
+  stops : over last ≡ f
+  there : last .tree ≡ u
 
-after : (t : Tree) (k : ℕ) (v : Tree) (n : ℕ) (u : Tree) → Reached over (next sat) k (start t) (start v) → Finish v n u → Finish t (k + n) u
-after t k v n u e w =
+-- with no cut: past every end; up to end i; and between the two questions of end i
+module _ {t : Tree} where
+  pub past-all : FirmBefore t (live t) → Comes t (2 * live t) t true
+  past-all f =
+      record {
+        last = stage t (live t) false;
+        stepped = walk t (live t) (omega arith) f;
+        stops = le-leb (live t) (live t) (omega arith);
+        there = refl;
+      }
+
+  pub up-to : (i : ℕ) → i < live t → FirmBefore t i → Comes t (2 * i) t false
+  up-to i h f =
+      record { last = stage t i false; stepped = walk t i (omega arith) f; stops = lt-leb (live t) i h; there = refl }
+
+  pub between : (i : ℕ) → i < live t → FirmBefore t i → (¬ NonConstraining t i) → Comes t (suc (2 * i)) t false
+  between i h f n =
+      record { last = stage t i true; stepped = walk-half t i h f n; stops = lt-leb (live t) i h; there = refl }
+
+after : {t v u : Tree} {n : ℕ} {f : Bool} (k : ℕ) → Reached over (next sat) k (start t) (start v) → Comes v n u f → Comes t (k + n) u f
+after {t} {v} {n = n} k e w =
     record {
       last = w .last;
       stepped = rw (w .stepped) at (ahead over (next sat) k n (start t) (start v) e);
       stops = w .stops;
-      leaves = w .leaves;
+      there = w .there;
     }
 
-finish : (t : Tree) (n : ℕ) (u : Tree) → Sweeps t n u → Finish t n u
-finish t n u (none-cut f) =
-    record {
-      last = stage t (live t) false;
-      stepped = walk t (live t) (omega arith) f;
-      stops = le-leb (live t) (live t) (omega arith);
-      leaves = refl;
-    }
-finish t n u (cut-one {n = m} i h f c s) =
-    after t (2 * suc i - 1) (fold (put t i (plain true))) m u (walk-one t i h f c) (finish (fold (put t i (plain true))) m u s)
-finish t n u (cut-two {n = m} i h f k c s) =
-    after t (2 * suc i) (fold (put t i (plain false))) m u (walk-two t i h f k c) (finish (fold (put t i (plain false))) m u s)
+-- with a cut, and on from there
+module _ {t u : Tree} {n : ℕ} {f : Bool} where
+  pub after-one : (i : ℕ) → i < live t → FirmBefore t i → NonConstraining t i →
+      Comes (fold (put t i (plain true))) n u f → Comes t (2 * suc i - 1 + n) u f
+  after-one i h firm c = after (2 * suc i - 1) (walk-one t i h firm c)
+
+  pub after-two : (i : ℕ) → i < live t → FirmBefore t i → (¬ NonConstraining t i) → NonRelaxing t i →
+      Comes (fold (put t i (plain false))) n u f → Comes t (2 * suc i + n) u f
+  after-two i h firm k c = after (2 * suc i) (walk-two t i h firm k c)
+
+-- a ration of n has come there
+pub trimmed-comes : (t : Tree) {u : Tree} {n : ℕ} {f : Bool} → Comes (fold t) n u f →
+    trimmed t n ≡ record { tree = u; asked = n; finished = f }
+unfolding trimmed sweep
+trimmed-comes t {n = n} w = ap reported (w .stepped) ∙ (λ i. record { tree = w .there i; asked = n; finished = w .stops i })
+
+-- A course is what the machine does
+
+finish : {t u : Tree} {n : ℕ} → Sweeps t n u → Comes t n u true
+finish (none-cut f) = past-all f
+finish (cut-one i h f c s) = after-one i h f c (finish s)
+finish (cut-two i h f k c s) = after-two i h f k c (finish s)
 
 -- Every tree has a course
 
@@ -139,13 +170,12 @@ course (suc k) t h = search t (λ u l. course k u (omega arith)) (live t) 0 (ome
 -- "The question count is thus fixed"
 
 pub count-fixed : (t : Tree) (n : ℕ) (u : Tree) → Sweeps (fold t) n u → (n ≡ needs t) × (trimmed t (needs t) .tree ≡ u)
-unfolding trimmed sweep
 count-fixed t n u s =
-    let w = finish (fold t) n u s in
-    let asked : trimmed t n .asked ≡ n = ap (λ (r : Ran Stage). r .asked) (w .stepped) in
-    let finished : trimmed t n .finished ≡ true = ap (λ (r : Ran Stage). over (r .last)) (w .stepped) ∙ w .stops in
-    let same : n ≡ needs t = omega (arith, asked-is t n, finished-is t n .0 finished) in
-    (same, ap (λ m. trimmed t m .tree) (sym same) ∙ (ap (λ (r : Ran Stage). r .last .tree) (w .stepped) ∙ w .leaves))
+    let e = trimmed-comes t (finish s) in
+    let same : n ≡ needs t =
+    omega (arith, asked-is t n, ap (λ (a : Answer). a .asked) e, finished-is t n .0 (ap (λ (a : Answer). a .finished) e))
+    in
+    (same, ap (λ m. trimmed t m .tree) (sym same) ∙ ap (λ (a : Answer). a .tree) e)
 
 pub counted : (t : Tree) → Sweeps (fold t) (needs t) (trimmed t (needs t) .tree)
 counted t =

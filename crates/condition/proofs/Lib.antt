@@ -18,3 +18,4 @@ pub mod Sweep
 pub mod Deciding
 pub mod Trimmed
 pub mod Count
+pub mod Given

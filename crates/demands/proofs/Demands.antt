@@ -37,6 +37,7 @@ use Rattle.travelring.specs.Trimming.{Outcome, refuses, ended, fitted, outcomeR
 use Rattle.travelring.proofs.Outcomes.{by-read, too-long, fits, told-ended}
 use Rattle.demands.specs.Demands.{TrimCall, JudgeCall, FindCall, said, four, result, Room, TrimTable, JudgeTable, FindTable}
 use Rattle.demands.specs.Demands.{Demand1, Finished, Writes, finished, stopped, Written, Demand2, Demand3}
+use Rattle.demands.proofs.Finding.{find-answers}
 
 -- ---- what a call may answer, by what was read
 
@@ -123,8 +124,8 @@ none-found t before found.Unfit after h n = absurd h
 
 some-found : (t : Tree) (before : List ℤ) (r : Found) (after : List ℤ) → FindsTree t before r after → Satisfiable t →
     let a = given (toldFound r .flags) after in
-    (toldFound r .answer ≡ 0) × (toldFound r .place ≡ 0) × (holds t a ≡ true) × InRange a
-some-found t before (found.Shown bits) after h w = (refl, refl, h .0, h .1)
+    (toldFound r .answer ≡ 0) × (toldFound r .place ≡ 0) × (holds t a ≡ true) × InRange a × (length after ≡ lastNumber)
+some-found t before (found.Shown bits) after h w = (refl, refl, h .0, h .1, h .2)
 some-found t before found.Nothing after h w = absurd (h .0 w)
 some-found t before (found.Refused why) after h w = absurd h
 some-found t before found.Unfit after h w = absurd h
@@ -146,6 +147,7 @@ pub demand-1 : Demand1
 demand-1 = record {
   trim-answers = trim-answers;
   judge-answers = judge-answers;
+  find-answers = find-answers;
   reads = refusals;
   trim-table = table;
   judge-table = judge-table;

@@ -1,4 +1,5 @@
 -- Proofs of the demands, of the useless versions' impossibility, of the worked trees and of 000's Lemma 1 being false.
+mod Finding
 pub mod Demands
 pub mod Useless
 mod Bounds

@@ -8,7 +8,7 @@ use native.Mathlib.Omega.{arith}
 use lib.IntN.{ℤ, pos, negsuc}
 use Rattle.condition.specs.Meaning.{Assignment, atMost, met, holds, given}
 use Rattle.demands.specs.Mixed.{original, replaced, Mixed}
-use Rattle.demands.proofs.Rows.{firm-below, none-left, done, parts}
+use Rattle.demands.proofs.Rows.{firm-below, none-left, kept, parts}
 use Rattle.demands.proofs.Bounds.{looser}
 
 -- p, x and y
@@ -59,7 +59,7 @@ unfolding parts
 mixed =
     record {
       reads-as = refl;
-      finished = done _ _ original refl (none-left eight refl) refl;
+      finished = kept _ _ original refl (none-left eight refl) refl;
       simplified = firm-below original eight 8 refl;
       shorter = refl;
       same = same;

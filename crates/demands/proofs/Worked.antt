@@ -1,6 +1,6 @@
 -- The table holds, row by row: the tree that the bytes read as, and its course. An end that stays is shown firm by a few assignments; an
 -- end that is cut is shown redundant by an implication, of Booleans or of bounds.
-use Prim.Native.Nat.{ℕ}
+use Prim.Native.Nat.{ℕ, _+_}
 use mathlib.Core.Path.{_≡_, refl}
 use mathlib.Core.List.{List, [], _∷_}
 use mathlib.Core.Bool.{Bool, true, false, not, _&&_, _||_, false≢true}
@@ -8,9 +8,10 @@ use native.Mathlib.Omega.{arith}
 use lib.IntN.{ℤ, pos, negsuc}
 use Rattle.condition.specs.Meaning.{Assignment, is, isNot, atMost, above, all, Tree, plain, leaf, join, none, more, holds, given}
 use Rattle.condition.specs.Critical.{both, NonConstraining, NonRelaxing}
+use Rattle.condition.proofs.Count.{Comes}
 use Rattle.demands.specs.Worked.{no-more, _then_, Worked}
 use Rattle.demands.specs.Mixed.{either}
-use Rattle.demands.proofs.Rows.{none-left, made-true, made-false, done, stopped, parts}
+use Rattle.demands.proofs.Rows.{none-left, stop-before, stop-between, made-true, made-false, kept, parts}
 use Rattle.demands.proofs.Bounds.{looser, itself, not-below-itself, none-between, chain}
 
 -- The trees
@@ -109,6 +110,16 @@ pub eight-again : NonConstraining (both (x<= 5) (x<= 3)) 0
 unfolding parts
 eight-again a = and-more (holds (x<= 5) a) (holds (x<= 3) a) (looser 1 0 (pos 3) (pos 5) (omega arith) a)
 
+-- "6 questions cut the last end, 1 cuts the first", and what then follows
+module _ {u : Tree} {n : ℕ} {f : Bool} where
+  cut-last : Comes (both (x<= 5) (x<= 3)) n u f → Comes eight (6 + n) u f
+  unfolding parts
+  cut-last = made-false xs 2 refl eight-cut
+
+  cut-first : Comes (x<= 3) n u f → Comes (both (x<= 5) (x<= 3)) (1 + n) u f
+  unfolding parts
+  cut-first = made-true [] 0 refl eight-again
+
 nine-cut : NonRelaxing nine 0
 unfolding parts
 nine-cut a = and-two _ _ (λ m n. absurd (none-between 1 2 a m n))
@@ -122,18 +133,24 @@ ten-cut a = and-three _ _ _ (λ l m n. absurd (chain 1 2 3 a l m n))
 pub worked : Worked
 unfolding parts
 worked =
-    done _ _ (plain true) refl (none-left [] refl) refl
-    then done _ _ (plain true) refl (none-left [] refl) refl
-    then done _ _ p refl (none-left ps refl) refl
-    then stopped _ p ps refl refl
-    then done _ _ (both (plain true) p) refl (none-left ps refl) refl
-    then done _ _ four refl (made-true [] 0 refl four-cut (none-left [] refl)) refl
-    then done _ _ (both p p) refl (made-true [] 0 refl five-cut (none-left ps refl)) refl
-    then done _ _ (x-x<= (pos 0)) refl (made-true [] 0 refl six-true (none-left [] refl)) refl
-    then done _ _ (x-x<= (negsuc 0)) refl (made-false ps 0 refl six-false (none-left [] refl)) refl
-    then done _ _ seven refl (made-false xs 1 refl seven-cut (none-left xs refl)) refl
-    then done _ _ eight refl (made-false xs 2 refl eight-cut (made-true [] 0 refl eight-again (none-left xs refl))) refl
-    then done _ _ nine refl (made-false (xyz 0 0 0 ∷ []) 0 refl nine-cut (none-left [] refl)) refl
-    then done _ _ (ten (negsuc 2)) refl (made-false (xyz 3 0 0 ∷ []) 0 refl ten-cut (none-left [] refl)) refl
-    then done _ _ (ten (negsuc 1)) refl (none-left (xyz 2 1 0 ∷ xyz 2 0 0 ∷ xyz 2 2 0 ∷ xyz 0 0 0 ∷ []) refl) refl
+    kept _ _ (plain true) refl (none-left [] refl) refl
+    then kept _ _ (plain true) refl (none-left [] refl) refl
+    then kept _ _ p refl (none-left ps refl) refl
+    then kept _ _ p refl (stop-between ps 0 refl) refl
+    then kept _ _ (both (plain true) p) refl (none-left ps refl) refl
+    then kept _ _ (both (plain true) p) refl (stop-before [] 0 refl) refl
+    then kept _ _ four refl (made-true [] 0 refl four-cut (none-left [] refl)) refl
+    then kept _ _ (both p p) refl (made-true [] 0 refl five-cut (none-left ps refl)) refl
+    then kept _ _ (x-x<= (pos 0)) refl (made-true [] 0 refl six-true (none-left [] refl)) refl
+    then kept _ _ (x-x<= (negsuc 0)) refl (made-false ps 0 refl six-false (none-left [] refl)) refl
+    then kept _ _ seven refl (made-false xs 1 refl seven-cut (none-left xs refl)) refl
+    then kept _ _ eight refl (cut-last (cut-first (none-left xs refl))) refl
+    then kept _ _ eight refl (stop-between xs 2 refl) refl
+    then kept _ _ eight refl (cut-last (stop-before [] 0 refl)) refl
+    then kept _ _ eight refl (cut-last (cut-first (stop-before [] 0 refl))) refl
+    then kept _ _ eight refl (cut-last (cut-first (stop-between xs 0 refl))) refl
+    then kept _ _ eight refl (cut-last (cut-first (none-left xs refl))) refl
+    then kept _ _ nine refl (made-false (xyz 0 0 0 ∷ []) 0 refl nine-cut (none-left [] refl)) refl
+    then kept _ _ (ten (negsuc 2)) refl (made-false (xyz 3 0 0 ∷ []) 0 refl ten-cut (none-left [] refl)) refl
+    then kept _ _ (ten (negsuc 1)) refl (none-left (xyz 2 1 0 ∷ xyz 2 0 0 ∷ xyz 2 2 0 ∷ xyz 0 0 0 ∷ []) refl) refl
     then no-more

@@ -97,15 +97,17 @@ pub record FindTable (c : FindCall) : Type 0 where
   -- 12
   pub none : length (c .before) ≡ lastNumber → (t : Tree) → read (c .input) ≡ tree t → (Satisfiable t → ⊥) →
       (toldFound (c .answer) ≡ record { answer = 12; place = 0; flags = 0 }) × (c .after ≡ c .before)
-  -- 0: the assignment shown satisfies the tree, and its numbers are in range
+  -- 0: the assignment shown satisfies the tree, and its numbers are in range and 15
   pub finds : length (c .before) ≡ lastNumber → (t : Tree) → read (c .input) ≡ tree t → Satisfiable t →
       let a = given (toldFound (c .answer) .flags) (c .after) in
-      (toldFound (c .answer) .answer ≡ 0) × (toldFound (c .answer) .place ≡ 0) × (holds t a ≡ true) × InRange a
+      (toldFound (c .answer) .answer ≡ 0) × (toldFound (c .answer) .place ≡ 0) × (holds t a ≡ true) × InRange a ×
+      (length (c .after) ≡ lastNumber)
 
 pub record Demand1 : Type 0 where
-  -- "Every byte string, ration and buffer length gets an answer": the contracts of trim and judge can be met
+  -- "Every byte string, ration and buffer length gets an answer": the three contracts can be met
   pub trim-answers : (s : List ℕ) (ration : ℕ) (before : List ℕ) → (r : Trimmed) × (after : List ℕ) × Trims s ration before r after
   pub judge-answers : (s : List ℕ) (flags : ℕ) (numbers : List ℤ) → (r : Judged) × (told r ≡ judged s flags numbers)
+  pub find-answers : (s : List ℕ) → Octets s → (before : List ℤ) → (r : Found) × (after : List ℤ) × Finds s before r after
   -- reading has a tree, or refuses with 1 to 8
   pub reads : (s : List ℕ) (n p : ℕ) → read s ≡ refusal n p → (1 ≤ n) × (n ≤ 8)
   -- "from the table in document 01, the first that applies"

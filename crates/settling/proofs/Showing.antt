@@ -1,11 +1,11 @@
--- The assignment that is shown. The bits are made from the highest down, each time twice those so far and one more: a bit made stays
--- the bit it was, one place higher. The numbers are written in order.
+-- The assignment that is shown. The bits are made from the highest down, each time twice those so far and one more (condition's
+-- Given). The numbers are written in order.
 use Prim.Native.Nat.{ℕ, suc, _+_, _-_, _*_, _/_, _%_, _^_, _≤_, _<_}
 use mathlib.Core.Path.{_≡_, refl, sym, ap, _∙_}
 use mathlib.Core.List.{List}
-use mathlib.Core.Bool.{Bool, true, false, cond}
+use mathlib.Core.Bool.{Bool, cond}
 use native.Mathlib.Omega.{arith}
-use native.Mathlib.Nat.{pow-succ', div-div-eq-div-mul}
+use native.Mathlib.Nat.{pow-succ'}
 use native.Mathlib.Decide.{ℕ-discrete}
 use lib.Dec.{eqb}
 use lib.IntN.{ℤ, pos}
@@ -14,6 +14,7 @@ use lib.Pow.{pow-mono}
 use lib.Seq.{getD-set-same, getD-set-other}
 use Rattle.condition.specs.Limits.{lastBoolean, lastNumber}
 use Rattle.condition.specs.Meaning.{value}
+use Rattle.condition.proofs.Given.{lowest, higher, bit-one}
 use Rattle.differences.specs.Table.{tightest, Shown}
 use Rattle.settling.specs.Settled.{Bits, Shows}
 
@@ -27,19 +28,6 @@ pub record Made (b : List ℕ) (r p : ℕ) : Type 0 where
 
 pub made-none : (b : List ℕ) → Made b 0 32
 made-none b = record { few = omega arith; small = omega arith; each = λ q h l. absurd (omega arith) }
-
--- the lowest bit, and those above it
-lowest : (r d k : ℕ) → k ≡ 0 → d < 2 → (2 * r + d) / 2 ^ k % 2 ≡ d
-lowest r d k e h = rw e (omega arith)
-
-higher : (r d k : ℕ) → d < 2 → (2 * r + d) / 2 ^ suc k ≡ r / 2 ^ k
-higher r d k h =
-    let half : (2 * r + d) / 2 ≡ r = omega arith in
-    ap (λ x. (2 * r + d) / x) (pow-succ' 2 k) ∙ sym (div-div-eq-div-mul (2 * r + d) 2 (2 ^ k)) ∙ ap (λ x. x / 2 ^ k) half
-
-bit-one : (s : Bool) → eqb (cond s 1 0) 1 ≡ s
-bit-one true = refl
-bit-one false = refl
 
 pub made-fits : (b : List ℕ) (r p : ℕ) → Made b r p → 0 < p → 2 * r + 2 ≤ 2 ^ 32
 made-fits b r p m h = omega (arith, m .small, pow-mono {i = 32 - p} {j = 31} (omega arith))

@@ -1,7 +1,7 @@
 -- What each way out of `judge` and of `find` shows: numbers of another length are 11; else what reading answered, and with a tree its
 -- value, or what the search answered of it.
 use Prim.Native.Nat.{ℕ, _≤_, _<_}
-use mathlib.Core.Path.{_≡_, refl, sym, subst}
+use mathlib.Core.Path.{_≡_, refl, sym, subst, _∙_}
 use mathlib.Core.List.{List}
 use mathlib.Core.Bool.{Bool}
 use native.Mathlib.Omega.{arith}
@@ -76,14 +76,14 @@ module _ (s : List ℕ) (numbers : List ℤ) where
 
     -- the tree read is within the limits, so the search speaks of it
     pub find-settles : ((i : ℕ) → getD s i 0 < 256) → (n : ℕ) → a ≡ answer.Tree n → (v : Verdict) (numbers' : List ℤ) (r : Found) →
-        settled.Finds (nodeAt ns) n numbers v numbers' → r ≡ foundBy v → Finds s numbers r numbers'
-    find-settles bytes n e v numbers' r f q =
+        settled.Finds (nodeAt ns) n numbers v numbers' → length numbers' ≡ length numbers → r ≡ foundBy v → Finds s numbers r numbers'
+    find-settles bytes n e v numbers' r f long q =
         as-read r numbers'
         (subst (λ x. FindsRead (read s) numbers x numbers') (sym q) (settles (read s) refl (subst (λ x. Holds ns x (read s)) e held)))
       where
         answered : (t : Tree) (v : Verdict) → settled.Right t v numbers' → (v ≡ verdict.Nothing → numbers' ≡ numbers) →
             FindsRead (tree t) numbers (foundBy v) numbers'
-        answered t (verdict.Found bits) h kept = h
+        answered t (verdict.Found bits) h kept = (h .0, h .1, long ∙ fit)
         answered t verdict.Nothing h kept = (h, kept refl)
 
         settles : (x : Read) → read s ≡ x → Holds ns (answer.Tree n) x → FindsRead x numbers (foundBy v) numbers'

@@ -33,9 +33,11 @@ pub record Refuses (answer place : ℕ) (numbers : List ℤ) (r : Found) (number
   pub told : toldFound r ≡ record { answer = answer; place = place; flags = 0 }
   pub kept : numbers' ≡ numbers
 
--- a tree: 0 with an assignment that satisfies it, "Each number it writes lies from -15,000,015 to 15,000,015"; or 12, and none does
+-- a tree: 0 with an assignment that satisfies it, "Each number it writes lies from -15,000,015 to 15,000,015", "Find's answer 0 fills its
+-- 15 numbers."; or 12, and none does
 abbrev pub FindsTree : Tree → List ℤ → Found → List ℤ → Type 0
-FindsTree t numbers (Shown bits) numbers' = (holds t (given bits numbers') ≡ true) × InRange (given bits numbers')
+FindsTree t numbers (Shown bits) numbers' =
+    (holds t (given bits numbers') ≡ true) × InRange (given bits numbers') × (length numbers' ≡ lastNumber)
 FindsTree t numbers Nothing numbers' = (Satisfiable t → ⊥) × (numbers' ≡ numbers)
 FindsTree t numbers (Refused why) numbers' = ⊥
 FindsTree t numbers Unfit numbers' = ⊥

@@ -22,7 +22,7 @@ returns-3 c =
     let answer2 = c .before .before .before .before .before .before .before .answer2 in
     let find = c .before .before .find in
     ways.find-settles _ _ (if1 .left) _ _ (read .ensures) (λ i. shared-slice-known .given i .fits) _ (answer2 .given .1) _ _ _
-    (find .ensures) (c .shown .ensures)
+    (find .ensures) (find .kept .1 .1 .0) (c .shown .ensures)
 
 pub find-spec : {M : Type 1} → statement M
 find-spec =
