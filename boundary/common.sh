@@ -18,7 +18,7 @@ install() {
 # need PROGRAM PACKAGE..: installs the packages if there is no such program.
 need() { command -v "$1" >/dev/null || install "${@:2}"; }
 
-# The proved library, target/staticlib/libtravelring.a.
+# The proved library, target/staticlib/libboundary.a.
 library() {
-    rt staticlib travelring >"$made/log" 2>&1 || { cat "$made/log"; exit 1; }
+    rt staticlib boundary >"$made/log" 2>&1 || { cat "$made/log"; exit 1; }
 }

@@ -1,6 +1,6 @@
 //! The proved library's calls, by its C boundary.
 
-#[link(name = "travelring", kind = "static")]
+#[link(name = "boundary", kind = "static")]
 extern "C" {
     // Rattle: travelring_find(tree: &[u8], numbers: &mut [i32], report: &mut [u64; 2]) -> u32
     fn travelring_find(tree: *const u8, tree_len: usize, numbers: *mut i32, numbers_len: usize, report: *mut [u64; 2]) -> u32;

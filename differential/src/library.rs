@@ -2,7 +2,7 @@
 
 use crate::lent::Lent;
 
-#[link(name = "travelring", kind = "static")]
+#[link(name = "boundary", kind = "static")]
 extern "C" {
     fn travelring_trim(tree: *const u8, tree_length: usize, ration: u32, out: *mut u8, out_length: usize, report: *mut u64) -> u32;
     fn travelring_judge(tree: *const u8, tree_length: usize, flags: u32, numbers: *const i32, many: usize, report: *mut u64) -> u32;

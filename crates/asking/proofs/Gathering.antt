@@ -16,7 +16,7 @@ use Rattle.nodes.specs.declared.Node.the-variants as node
 use Rattle.nodes.specs.Words.{nodeOf, nodeAt, wordOf}
 use Rattle.nodes.specs.Laid.{joinOf, flagEnd, boundEnd, nodes, nodesAll, Laid, LaidAll}
 use Rattle.nodes.proofs.Words.{put-here, put-other}
-use Rattle.nodes.proofs.Laws.{some-node, tell, at-plain, at-flag, at-bound, at-join, at-none, moveAll}
+use Rattle.nodes.proofs.Laws.{some-node, tell, at-plain, at-flag, at-bound, Joined, at-join, at-none, moveAll}
 use Rattle.asking.specs.Asked.{turned, asked, starAll, onto, gathered, gatheredIn, question}
 use Rattle.asking.specs.Asked.{Stars, Among, Sought, Siblings, Stand, Gathers, Asks}
 use Rattle.asking.proofs.Rest.{before-rest, in-rest, put-first}
@@ -126,7 +126,6 @@ module _ (n : ℕ → Node) (i left m depth : ℕ) (opp : Bool) (o : ℕ → Nod
         laid : LaidAll ts n (i + 1)
         total : nodesAll ts ≡ left - 1
         shallow : deepAll ts ≤ depth - 1
-        nested : 1 ≤ depth
         many : count ts ≡ k
         among : Among ts (i + 1) m at size end
         split : nodesAll (among .elder) + (nodes (among .t) + nodesAll (among .younger)) ≡ nodesAll ts
@@ -134,32 +133,37 @@ module _ (n : ℕ → Node) (i left m depth : ℕ) (opp : Bool) (o : ℕ → Nod
         within : Laid (among .t) n at
         inner : deep (among .t) ≤ depth - 1
 
-      children : (t : Tree) → Laid t n i → nodes t ≡ left → m < live t → deep t ≤ depth → Children t
-      unfolding nodes live deep Laid
-      children t l e h d =
-          let p = at-join n i t a k s q l in
+      -- the child among its siblings, given what the node says of the tree
+      apart : (t : Tree) → nodes t ≡ left → deep t ≤ depth → (p : Joined t n i a k s) → Among (p .ts) (i + 1) m at size end → Children t
+      unfolding nodes deep Laid
+      apart t e d p c =
           let ts = p .ts in
           let size-is : nodes t ≡ nodesAll ts + 1 = ap nodes (p .tree) in
-          let ends : live t ≡ liveAll ts = ap live (p .tree) in
           let depth-is : deep t ≡ suc (deepAll ts) = ap deep (p .tree) in
-          let c = sought .right ts (p .laid) (omega arith) (omega arith) in
-          let start = c .before in
-          let deepest = ap deepAll (c .parts) ∙ onto-deep (c .elder) (more (c .t) (c .younger)) in
-          let apart = laid-onto (c .elder) (more (c .t) (c .younger)) n (i + 1) (subst (λ us. LaidAll us n (i + 1)) (c .parts) (p .laid)) in
+          let nested : deepAll ts ≡ max (deepAll (c .elder)) (max (deep (c .t)) (deepAll (c .younger))) =
+          ap deepAll (c .parts) ∙ onto-deep (c .elder) (more (c .t) (c .younger)) in
+          let laid = laid-onto (c .elder) (more (c .t) (c .younger)) n (i + 1) (subst (λ us. LaidAll us n (i + 1)) (c .parts) (p .laid)) in
           record {
             ts = ts;
             tree = p .tree;
             laid = p .laid;
             total = omega arith;
             shallow = omega arith;
-            nested = omega arith;
             many = p .many;
             among = c;
             split = sym (ap nodesAll (c .parts) ∙ onto-nodes (c .elder) (more (c .t) (c .younger)));
             counted = omega (arith, ap count (c .parts) ∙ onto-count (c .elder) (more (c .t) (c .younger)));
-            within = subst (Laid (c .t) n) start (apart .1 .0);
+            within = subst (Laid (c .t) n) (c .before) (laid .1 .0);
             inner = omega arith;
           }
+
+      children : (t : Tree) → Laid t n i → nodes t ≡ left → m < live t → deep t ≤ depth → Children t
+      unfolding nodes live
+      children t l e h d =
+          let p = at-join n i t a k s q l in
+          let size-is : nodes t ≡ nodesAll (p .ts) + 1 = ap nodes (p .tree) in
+          let ends : live t ≡ liveAll (p .ts) = ap live (p .tree) in
+          apart t e d p (sought .right (p .ts) (p .laid) (omega arith) (omega arith))
 
       pub too-many : left - 1 - size < k - 1 → Gathers n i left m depth opp o 0 0
       too-many far = nothing (λ t l e h d.

@@ -3,4 +3,3 @@ pub mod Once
 pub mod Outcomes
 mod Ways
 mod Trims
-mod Reporting

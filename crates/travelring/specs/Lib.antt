@@ -2,4 +2,3 @@
 pub mod Judging
 pub mod Finding
 pub mod Trimming
-pub mod Reports

@@ -1,6 +1,4 @@
 // The public calls of Travelring: each answers for every input.
-mod boundary;
-
 use condition::LAST_NUMBER;
 use cursor::Refusal;
 use reading::Answer;

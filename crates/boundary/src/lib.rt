@@ -1,13 +1,13 @@
 // The C boundary. Each call returns document 01's number and writes its report, a place and what comes with it, in every answer.
-use crate::Found;
-use crate::Judged;
-use crate::Trimmed;
 use cursor::Refusal;
+use travelring::Found;
+use travelring::Judged;
+use travelring::Trimmed;
 ghost use mathlib.Core.Path.{_≡_};
 ghost use mathlib.Core.Bool.{cond};
 ghost use Rattle.travelring.specs.Judging.{judged};
-ghost use Rattle.travelring.specs.Reports.{ReportsJudged, ReportsFound, ReportsTrimmed};
-ghost use Rattle.travelring.specs.Reports.{saidRefusal, saidJudged, saidFound, saidTrimmed};
+ghost use Rattle.boundary.specs.Reports.{ReportsJudged, ReportsFound, ReportsTrimmed};
+ghost use Rattle.boundary.specs.Reports.{saidRefusal, saidJudged, saidFound, saidTrimmed};
 
 // An answer's number, its place, and what comes with it.
 pub struct Said(pub u32, pub u64, pub u64);
@@ -81,7 +81,7 @@ pub extern "C" fn travelring_judge(
 ) -> u32
     ensures { λ r. ⌜ ReportsJudged (judged (now (tree .entry)) flags (now (numbers .entry))) r (now (report .entry)) (now (report .exit)) ⌝ }
 {
-    let said = said_judged(crate::judge(tree, flags, numbers));
+    let said = said_judged(travelring::judge(tree, flags, numbers));
     report[0] = said.1;
     report[1] = said.2;
     said.0
@@ -92,7 +92,7 @@ pub extern "C" fn travelring_judge(
 pub extern "C" fn travelring_find(tree: &[u8], numbers: &mut [i32], report: &mut [u64; 2]) -> u32
     ensures { λ r. ⌜ ReportsFound (now (tree .entry)) (now (numbers .entry)) (now (numbers .exit)) r (now (report .entry)) (now (report .exit)) ⌝ }
 {
-    let said = said_found(crate::find(tree, numbers));
+    let said = said_found(travelring::find(tree, numbers));
     report[0] = said.1;
     report[1] = said.2;
     said.0
@@ -108,7 +108,7 @@ pub extern "C" fn travelring_trim(
 ) -> u32
     ensures { λ r. ⌜ ReportsTrimmed (now (tree .entry)) ration (now (out .entry)) (now (out .exit)) r (now (report .entry)) (now (report .exit)) ⌝ }
 {
-    let said = said_trimmed(crate::trim(tree, ration, out));
+    let said = said_trimmed(travelring::trim(tree, ration, out));
     report[0] = said.1;
     report[1] = said.2;
     report[2] = said.3;

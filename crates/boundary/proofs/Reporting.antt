@@ -5,15 +5,15 @@ use mathlib.Core.List.{List}
 use mathlib.Core.Bool.{cond}
 use lib.IntN.{ℤ}
 use lib.ListN.{length, set}
 use Rattle.travelring.specs.declared.Judged.{Judged}
 use Rattle.travelring.specs.declared.Found.{Found}
 use Rattle.travelring.specs.declared.Trimmed.{Trimmed}
-use Rattle.travelring.specs.declared.boundary.Said.{Said}
-use Rattle.travelring.specs.declared.boundary.SaidTrimmed.{SaidTrimmed}
+use Rattle.boundary.specs.declared.Said.{Said}
+use Rattle.boundary.specs.declared.SaidTrimmed.{SaidTrimmed}
 use Rattle.travelring.specs.Judging.{judged, told}
 use Rattle.travelring.specs.Finding.{toldFound, Finds}
 use Rattle.travelring.specs.Trimming.{outcome, Trims}
-use Rattle.travelring.specs.Reports.{Reports, ReportsJudged, ReportsFound, ReportsTrimmed, saidJudged, saidFound, saidTrimmed}
+use Rattle.boundary.specs.Reports.{Reports, ReportsJudged, ReportsFound, ReportsTrimmed, saidJudged, saidFound, saidTrimmed}
 
 -- three numbers, two of them written
 reports : (said : Said) (answer place value : ℕ) → said .0 ≡ answer → said .1 ≡ place → said .2 ≡ value → (report : List ℕ) →

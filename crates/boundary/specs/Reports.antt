@@ -8,14 +8,14 @@ use lib.IntN.{ℤ}
 use lib.ListN.{length, set}
 use Rattle.cursor.specs.declared.Refusal.{Refusal}
 use Rattle.cursor.specs.Said.{answerOf, placeOf}
 use Rattle.travelring.specs.declared.Judged.{Judged}
 use Rattle.travelring.specs.declared.Found.{Found}
 use Rattle.travelring.specs.declared.Trimmed.{Trimmed}
-use Rattle.travelring.specs.declared.boundary.Said.{Said}
-use Rattle.travelring.specs.declared.boundary.SaidTrimmed.{SaidTrimmed}
+use Rattle.boundary.specs.declared.Said.{Said}
+use Rattle.boundary.specs.declared.SaidTrimmed.{SaidTrimmed}
 use Rattle.travelring.specs.Judging.{Judgement, told}
 use Rattle.travelring.specs.Finding.{Finding, toldFound, Finds}
 use Rattle.travelring.specs.Trimming.{Trimming, Outcome, outcome, toldTrimmed, onto}
 
 -- the number returned, and a report of two numbers that holds the place and what comes with the answer
 pub record Reports (answer place value : ℕ) (r : ℕ) (report report' : List ℕ) : Type 0 where

@@ -1,8 +1,8 @@
 -- `travelring_judge` meets its contract: what judge answers, as three numbers, two of them in the report.
-use Rattle.travelring.proofs.Reporting.{judge-reports}
+use Rattle.boundary.proofs.Reporting.{judge-reports}
 use borrow.Author.Needs.{needs}
-use Rattle.travelring.proofs.boundary.travelring_judge.Statement.{statement}
-use Rattle.travelring.proofs.boundary.travelring_judge.Tie as tie
+use Rattle.boundary.proofs.travelring_judge.Statement.{statement}
+use Rattle.boundary.proofs.travelring_judge.Tie as tie
 
 returns : tie.Need-returns
 returns c = judge-reports _ _ _ _ (c .before .judge .result) _ (c .before .judge .ensures) (c .said-judged .ensures)

@@ -1,9 +1,9 @@
 -- `boundary::said_found` meets its contract: a case of the answer each.
 use mathlib.Core.Path.{sym, _∙_, ap}
-use Rattle.travelring.specs.Reports.{saidFound}
+use Rattle.boundary.specs.Reports.{saidFound}
 use borrow.Author.Needs.{needs}
-use Rattle.travelring.proofs.boundary.said_found.Statement.{statement}
-use Rattle.travelring.proofs.boundary.said_found.Tie as tie
+use Rattle.boundary.proofs.said_found.Statement.{statement}
+use Rattle.boundary.proofs.said_found.Tie as tie
 
 returns : tie.Need-returns
 returns c = sym (ap saidFound (c .before .found .given .1))

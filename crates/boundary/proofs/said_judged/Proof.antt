@@ -1,9 +1,9 @@
 -- `boundary::said_judged` meets its contract: a case of the answer each.
 use mathlib.Core.Path.{sym, _∙_, ap}
-use Rattle.travelring.specs.Reports.{three, saidJudged}
+use Rattle.boundary.specs.Reports.{three, saidJudged}
 use borrow.Author.Needs.{needs}
-use Rattle.travelring.proofs.boundary.said_judged.Statement.{statement}
-use Rattle.travelring.proofs.boundary.said_judged.Tie as tie
+use Rattle.boundary.proofs.said_judged.Statement.{statement}
+use Rattle.boundary.proofs.said_judged.Tie as tie
 
 returns : tie.Need-returns
 returns c =

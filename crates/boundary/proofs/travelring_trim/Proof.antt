@@ -1,8 +1,8 @@
 -- `travelring_trim` meets its contract: what trim answers, as four numbers, three of them in the report.
-use Rattle.travelring.proofs.Reporting.{trim-reports}
+use Rattle.boundary.proofs.Reporting.{trim-reports}
 use borrow.Author.Needs.{needs}
-use Rattle.travelring.proofs.boundary.travelring_trim.Statement.{statement}
-use Rattle.travelring.proofs.boundary.travelring_trim.Tie as tie
+use Rattle.boundary.proofs.travelring_trim.Statement.{statement}
+use Rattle.boundary.proofs.travelring_trim.Tie as tie
 
 returns : tie.Need-returns
 returns c =

@@ -1,8 +1,8 @@
 -- `travelring_find` meets its contract: what find answers, as three numbers, two of them in the report.
-use Rattle.travelring.proofs.Reporting.{find-reports}
+use Rattle.boundary.proofs.Reporting.{find-reports}
 use borrow.Author.Needs.{needs}
-use Rattle.travelring.proofs.boundary.travelring_find.Statement.{statement}
-use Rattle.travelring.proofs.boundary.travelring_find.Tie as tie
+use Rattle.boundary.proofs.travelring_find.Statement.{statement}
+use Rattle.boundary.proofs.travelring_find.Tie as tie
 
 returns : tie.Need-returns
 returns c =

@@ -1,9 +1,9 @@
 -- `boundary::said_trimmed` meets its contract: a case of the answer each.
 use mathlib.Core.Path.{sym, ap}
-use Rattle.travelring.specs.Reports.{saidTrimmed}
+use Rattle.boundary.specs.Reports.{saidTrimmed}
 use borrow.Author.Needs.{needs}
-use Rattle.travelring.proofs.boundary.said_trimmed.Statement.{statement}
-use Rattle.travelring.proofs.boundary.said_trimmed.Tie as tie
+use Rattle.boundary.proofs.said_trimmed.Statement.{statement}
+use Rattle.boundary.proofs.said_trimmed.Tie as tie
 
 returns : tie.Need-returns
 returns c = sym (ap saidTrimmed (c .before .trimmed .given .1))

@@ -1,7 +1,7 @@
 -- `boundary::said_refusal` meets its contract: a row of the table each.
 use borrow.Author.Needs.{needs}
-use Rattle.travelring.proofs.boundary.said_refusal.Statement.{statement}
-use Rattle.travelring.proofs.boundary.said_refusal.Tie as tie
+use Rattle.boundary.proofs.said_refusal.Statement.{statement}
+use Rattle.boundary.proofs.said_refusal.Tie as tie
 
 returns : tie.Need-returns
 returns c = simp (c .before .why .given .1)

@@ -1,0 +1,3 @@
+-- What a report says of the answer, and that no choice is left.
+pub mod Once
+mod Reporting

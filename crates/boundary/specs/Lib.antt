@@ -1,0 +1,2 @@
+-- What the calls of the C boundary return and write.
+pub mod Reports
