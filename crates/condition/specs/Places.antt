@@ -14,8 +14,8 @@ pub data Begun : List ℕ → (read owed : ℕ) → Type 0 where
   -- "Ends owed: 1 at the start"
   start : Begun [] 0 1
   -- "a connective with k children adds k - 1"
-  connective : {s : List ℕ} {read owed : ℕ} (g k : ℕ) → Begun s read (suc owed) → (2 ≤ g) × (g ≤ 3) → 2 ≤ k → read + owed + k ≤ mostEnds →
-      Begun (s ++ number g ++ number k) read (owed + k)
+  connective : {s : List ℕ} {read owed : ℕ} (g k : ℕ) → Begun s read (suc owed) → (2 ≤ g) × (g ≤ 3) → 2 ≤ k →
+      read + owed + k ≤ mostEnds → Begun (s ++ number g ++ number k) read (owed + k)
   -- "an end read takes 1 away"
   constant : {s : List ℕ} {read owed : ℕ} (g : ℕ) → Begun s read (suc owed) → g ≤ 1 → Begun (s ++ number g) (read + 1) owed
   end : {s : List ℕ} {read owed : ℕ} (e : End) → Begun s read (suc owed) → EndWithin e → Begun (s ++ endBytes e) (read + 1) owed

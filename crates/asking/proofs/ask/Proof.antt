@@ -13,30 +13,6 @@ returns c = ways.large _ _ _ _ _ (c .if1 .taken)
 returns-2 : tie.Need-returns-2
 returns-2 c = ways.no-room _ _ _ _ _ (c .if2 .taken)
 
-sub-gather : tie.Need-sub-gather
-sub-gather c = search needs
-
-part-gather-start : tie.Need-part-gather-start
-part-gather-start c = search needs
-
-part-gather-end : tie.Need-part-gather-end
-part-gather-end c = search needs
-
-gather-requires : tie.Need-gather-requires
-gather-requires c κs = search needs
-
-cast-t16 : tie.Need-cast-t16
-cast-t16 c = search needs
-
-put-node-requires : tie.Need-put-node-requires
-put-node-requires c κs = search needs
-
-add-result : tie.Need-add-result
-add-result c = search needs
-
-same-length : tie.Need-same-length
-same-length c = search needs
-
 returns-3 : tie.Need-returns-3
 returns-3 c =
     let out = c .before .before .before .before .before .before .before .out in
@@ -56,12 +32,12 @@ ask-spec =
     (tie.spec
     returns
     returns-2
-    sub-gather
-    part-gather-start
-    part-gather-end
-    gather-requires
-    cast-t16
-    put-node-requires
-    add-result
-    same-length
+    (λ c. search needs)
+    (λ c. search needs)
+    (λ c. search needs)
+    (λ c κs. search needs)
+    (λ c. search needs)
+    (λ c κs. search needs)
+    (λ c. search needs)
+    (λ c. search needs)
     returns-3)

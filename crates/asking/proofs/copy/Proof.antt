@@ -21,9 +21,6 @@ loop-holds c = copied-none
 add-word-at : tie.Need-add-word-at Inv-loop μ-loop
 add-word-at c = omega (arith, c .before .before .before .before .pre)
 
-word-at-requires : tie.Need-word-at-requires Inv-loop μ-loop
-word-at-requires c κs = search needs
-
 mul-out : tie.Need-mul-out Inv-loop μ-loop
 mul-out c = omega (arith, c .before .before .before .before .before .pre)
 
@@ -56,7 +53,7 @@ copy-spec =
     μ-loop
     loop-holds
     add-word-at
-    word-at-requires
+    (λ c κs. search needs)
     mul-out
     slice-write-out
     add-k

@@ -16,17 +16,11 @@ abbrev μ-loop : tie.MeasureT-loop
 loop-holds : tie.Need-loop-holds Inv-loop μ-loop
 loop-holds c = seek-none (c .before .pre .0)
 
-size-at-requires : tie.Need-size-at-requires Inv-loop μ-loop
-size-at-requires c κs = search needs
-
 sub-if1 : tie.Need-sub-if1 Inv-loop μ-loop
 sub-if1 c = omega arith
 
 returns : tie.Need-returns Inv-loop μ-loop
 returns c = seek-beyond (c .before .size-at .ensures .0) (c .before .before .before .loop .inv) (c .if1 .taken)
-
-ends-requires : tie.Need-ends-requires Inv-loop μ-loop
-ends-requires c κs = search needs
 
 returns-2 : tie.Need-returns-2 Inv-loop μ-loop
 returns-2 c =
@@ -60,10 +54,10 @@ seek-spec =
     Inv-loop
     μ-loop
     loop-holds
-    size-at-requires
+    (λ c κs. search needs)
     sub-if1
     returns
-    ends-requires
+    (λ c κs. search needs)
     returns-2
     add-at
     loop-less

@@ -7,39 +7,6 @@ use borrow.Author.Needs.{needs}
 use Rattle.asking.proofs.siblings.Statement.{statement}
 use Rattle.asking.proofs.siblings.Tie as tie
 
-sub-elder : tie.Need-sub-elder
-sub-elder c = search needs
-
-add-next : tie.Need-add-next
-add-next c = search needs
-
-star-requires : tie.Need-star-requires
-star-requires c κs = search needs
-
-add-star : tie.Need-add-star
-add-star c = search needs
-
-sub-star : tie.Need-sub-star
-sub-star c = search needs
-
-mul-star : tie.Need-mul-star
-mul-star c = search needs
-
-sub-star-2 : tie.Need-sub-star-2
-sub-star-2 c = search needs
-
-part-star-start : tie.Need-part-star-start
-part-star-start c = search needs
-
-part-star-end : tie.Need-part-star-end
-part-star-end c = search needs
-
-star-requires-2 : tie.Need-star-requires-2
-star-requires-2 c κs = search needs
-
-same-length : tie.Need-same-length
-same-length c = search needs
-
 returns : tie.Need-returns
 returns c =
     let star = c .before .before .before .before .before .before .star in
@@ -53,15 +20,15 @@ pub siblings-spec : {M : Type 1} → statement M
 siblings-spec =
     tie.close
     (tie.spec
-    sub-elder
-    add-next
-    star-requires
-    add-star
-    sub-star
-    mul-star
-    sub-star-2
-    part-star-start
-    part-star-end
-    star-requires-2
-    same-length
+    (λ c. search needs)
+    (λ c. search needs)
+    (λ c κs. search needs)
+    (λ c. search needs)
+    (λ c. search needs)
+    (λ c. search needs)
+    (λ c. search needs)
+    (λ c. search needs)
+    (λ c. search needs)
+    (λ c κs. search needs)
+    (λ c. search needs)
     returns)
