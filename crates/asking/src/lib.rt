@@ -1,6 +1,6 @@
 // Writes the question about an end: its critical constraint and the end or its opposite, as one `and`. The constraint is gathered by
 // recursion down the path to the end, and a sibling below an `or` is negated by recursion down its own paths; what falls is how many
-// connectives may still nest.
+// connectives may still nest. Where a contract asks that a node's place and a count stay below 65536, that keeps every sum from wrapping.
 use condition::DEEPEST;
 use nodes::Node;
 use nodes::ROOM;
