@@ -81,10 +81,10 @@ pub extern "C" fn travelring_judge(
 ) -> u32
     ensures { λ r. ⌜ ReportsJudged (judged (now (tree .entry)) flags (now (numbers .entry))) r (now (report .entry)) (now (report .exit)) ⌝ }
 {
-    let said = said_judged(travelring::judge(tree, flags, numbers));
-    report[0] = said.1;
-    report[1] = said.2;
-    said.0
+    let judged = said_judged(travelring::judge(tree, flags, numbers));
+    report[0] = judged.1;
+    report[1] = judged.2;
+    judged.0
 }
 
 // Finds an assignment; the report is place and boolean bits.
@@ -92,10 +92,10 @@ pub extern "C" fn travelring_judge(
 pub extern "C" fn travelring_find(tree: &[u8], numbers: &mut [i32], report: &mut [u64; 2]) -> u32
     ensures { λ r. ⌜ ReportsFound (now (tree .entry)) (now (numbers .entry)) (now (numbers .exit)) r (now (report .entry)) (now (report .exit)) ⌝ }
 {
-    let said = said_found(travelring::find(tree, numbers));
-    report[0] = said.1;
-    report[1] = said.2;
-    said.0
+    let found = said_found(travelring::find(tree, numbers));
+    report[0] = found.1;
+    report[1] = found.2;
+    found.0
 }
 
 // Trims the condition; the report is place, questions asked and ends of the result.
@@ -108,9 +108,9 @@ pub extern "C" fn travelring_trim(
 ) -> u32
     ensures { λ r. ⌜ ReportsTrimmed (now (tree .entry)) ration (now (out .entry)) (now (out .exit)) r (now (report .entry)) (now (report .exit)) ⌝ }
 {
-    let said = said_trimmed(travelring::trim(tree, ration, out));
-    report[0] = said.1;
-    report[1] = said.2;
-    report[2] = said.3;
-    said.0
+    let trimmed = said_trimmed(travelring::trim(tree, ration, out));
+    report[0] = trimmed.1;
+    report[1] = trimmed.2;
+    report[2] = trimmed.3;
+    trimmed.0
 }
