@@ -66,7 +66,7 @@ module _ (end : ℕ) where
     unfolding readJoin
     join-ends g place l at h =
         ended-then (readCount l at) _ (count-ends l at h) (λ k l1 at1 h1.
-        ended-cond (ltb mostEnds (others + k)) (refused 7 place) _ (omega arith)
+        ended-cond (ltb mostEnds (others + k)) _ _ (omega arith)
         (ended-then (kids k l1 at1) _ (kids-end k l1 at1 h1) (λ ts l2 at2 h2. h2)))
 
     node-ends : Ends (λ l at. readNode kids l at others)

@@ -186,7 +186,7 @@ module _ (s : List ℕ) (kids : ℕ → List ℕ → ℕ → Reading Forest) (u 
       let took1 = took-again took tagged in
       faulted-then s (readCount l at) _ _ (count-faults s _ (count-next g (tag-next begun) two) l at took1)
       (count-written l at (tagged .rest)) (λ k l1 at1 w1.
-      faulted-cond s (ltb mostEnds (past + owed + k)) (refused 7 at0) _
+      faulted-cond s (ltb mostEnds (past + owed + k)) _ _
       (λ e h. stands took (rw (tagged .from, w1 .took .from)
       (crowd g k l1 begun two (w1 .good .0) (w1 .good .1) (ltb-true mostEnds (past + owed + k) e))))
       (λ e.
