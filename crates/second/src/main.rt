@@ -13,14 +13,14 @@ use read::read_tree;
 use text::character;
 use text::find;
 use text::word_after;
-use trial::MOST_TRIED;
-use trial::NONE;
-use trial::Range;
 use trial::differ;
-use trial::range_of;
+use trial::made;
 ghost use Prim.Native.Nat.{_≤_, _<_};
 
 const MOST_TEXT: usize = 131072;
+
+// In place of a node: there is none.
+const NONE: usize = MOST_NODES;
 
 enum Answer {
     Finished,
@@ -56,32 +56,32 @@ fn count_ends(tree: Tree, n: usize) -> usize
 }
 
 // Document 000, definition 5: an end is redundant if making it true, or making it false, changes the value under no assignment.
-fn redundant(tree: Tree, i: usize, range: Range) -> bool
+fn redundant(tree: Tree, i: usize) -> bool
     requires { ⌜ i < 48 ⌝ }
 {
     if tree.kind[i] != END {
         return false;
     }
-    if differ(tree, tree, i, true, range) {
-        return !differ(tree, tree, i, false, range);
+    if differ(tree, made(tree, i, true)) {
+        return !differ(tree, made(tree, i, false));
     }
     true
 }
 
 // The first node that is a redundant end; NONE if there is none.
-fn first_redundant(tree: Tree, range: Range) -> usize
+fn first_redundant(tree: Tree) -> usize
     ensures { λ r. ⌜ r ≤ 48 ⌝ }
 {
     for i in 0..MOST_NODES {
-        if redundant(tree, i, range) {
+        if redundant(tree, i) {
             return i;
         }
     }
     NONE
 }
 
-fn print_redundant(tree: Tree, range: Range) {
-    let i = first_redundant(tree, range);
+fn print_redundant(tree: Tree) {
+    let i = first_redundant(tree);
     if i == NONE {
         print(b", each matters");
         return;
@@ -103,8 +103,8 @@ fn print_ends(left: usize, ends: usize) {
 }
 
 // A stopped sweep may leave redundant ends, so these are looked for only in a finished result.
-fn compare(condition: Tree, result: Tree, finished: bool, range: Range) {
-    if differ(condition, result, NONE, false, range) {
+fn compare(condition: Tree, result: Tree, finished: bool) {
+    if differ(condition, result) {
         print(b"differs");
         return;
     }
@@ -114,7 +114,7 @@ fn compare(condition: Tree, result: Tree, finished: bool, range: Range) {
         count_ends(condition, MOST_NODES),
     );
     if finished {
-        print_redundant(result, range);
+        print_redundant(result);
     } else {
         print(b", stopped");
     }
@@ -129,12 +129,7 @@ fn check_trees(condition: Tree, result: Tree, finished: bool) {
         print(b"result not understood");
         return;
     }
-    let range = range_of(condition, result);
-    if MOST_TRIED < range.count {
-        print(b"too many assignments");
-        return;
-    }
-    compare(condition, result, finished, range);
+    compare(condition, result, finished);
 }
 
 // Of the answers from 0 to 12, those that begin with 1 are 1, 10, 11 and 12.

@@ -3,7 +3,7 @@
 use crate::text::character;
 use crate::text::word_after;
 ghost use mathlib.Core.Path.{_≡_};
-ghost use Prim.Native.Nat.{_≤_};
+ghost use Prim.Native.Nat.{_≤_, _<_};
 ghost use lib.ListN.{length};
 
 // Numbers 0 to 15, then booleans 0 to 31.
@@ -15,6 +15,9 @@ const MOST_ENDS: usize = 24;
 
 // One more than 24 ends and the 23 joins of two between them.
 pub const MOST_NODES: usize = 2 * MOST_ENDS;
+
+// Room for two trees and a node above them.
+pub const ROOM: usize = 2 * MOST_NODES;
 
 const HIGHEST_COUNT: u64 = MOST_ENDS as u64;
 
@@ -36,24 +39,29 @@ pub const AND: u8 = 2;
 
 pub const OR: u8 = 3;
 
-// The nodes in prefix order. A tree that is not understood has size 0.
+// A join that no condition has: true where one of the two is true and the other false.
+pub const DIFFERS: u8 = 4;
+
+// Of two names: x + a <= y + b.
+pub struct AtMost {
+    pub x: usize,
+    pub a: u32,
+    pub y: usize,
+    pub b: u32,
+}
+
+// The nodes in prefix order, with what each says if it is an end. A tree that is not understood has size 0.
 pub struct Tree {
     pub size: usize,
-    pub kind: [u8; MOST_NODES],
-    pub x: [usize; MOST_NODES],
-    pub a: [u32; MOST_NODES],
-    pub y: [usize; MOST_NODES],
-    pub b: [u32; MOST_NODES],
+    pub kind: [u8; ROOM],
+    pub says: [AtMost; ROOM],
 }
 
 // What was read: a node that stands `times` times, 0 if it is not understood.
 struct Node {
     kind: u8,
     times: usize,
-    x: usize,
-    a: u32,
-    y: usize,
-    b: u32,
+    says: AtMost,
     next: usize,
 }
 
@@ -62,14 +70,34 @@ struct Number {
     next: usize,
 }
 
-fn no_tree() -> Tree {
+fn at_most(x: usize, a: u32, y: usize, b: u32) -> AtMost
+    ensures { λ r. ⌜ r .b ≡ b ⌝ }
+{
+    AtMost {
+        x: x,
+        a: a,
+        y: y,
+        b: b,
+    }
+}
+
+// 0 <= 0 is true, and 0 + 1 <= 0 is false.
+pub fn constant(so: bool) -> AtMost
+    ensures { λ r. ⌜ r .b ≡ 0 ⌝ }
+{
+    if so {
+        at_most(0, 0, 0, 0)
+    } else {
+        at_most(0, 1, 0, 0)
+    }
+}
+
+pub fn no_tree() -> Tree {
+    let nothing = constant(false);
     Tree {
         size: 0,
-        kind: [0; MOST_NODES],
-        x: [0; MOST_NODES],
-        a: [0; MOST_NODES],
-        y: [0; MOST_NODES],
-        b: [0; MOST_NODES],
+        kind: [CONSTANT; ROOM],
+        says: [nothing; ROOM],
     }
 }
 
@@ -131,52 +159,43 @@ fn read_number(text: &[u8], at: usize) -> Number
 }
 
 fn join(kind: u8, times: usize, next: usize) -> Node
-    ensures { λ r. ⌜ (r .times ≡ times) × (r .b ≡ 0) × (r .next ≡ next) ⌝ }
+    ensures { λ r. ⌜ (r .times ≡ times) × (r .says .b ≡ 0) × (r .next ≡ next) ⌝ }
 {
     Node {
         kind: kind,
         times: times,
-        x: 0,
-        a: 0,
-        y: 0,
-        b: 0,
+        says: constant(false),
         next: next,
     }
 }
 
 fn no_node(next: usize) -> Node
-    ensures { λ r. ⌜ (r .times ≡ 0) × (r .b ≡ 0) × (r .next ≡ next) ⌝ }
+    ensures { λ r. ⌜ (r .times ≡ 0) × (r .says .b ≡ 0) × (r .next ≡ next) ⌝ }
 {
     join(CONSTANT, 0, next)
 }
 
-// x + a <= y + b.
-fn at_most(kind: u8, x: usize, a: u32, y: usize, b: u32, next: usize) -> Node
-    ensures { λ r. ⌜ (r .times ≡ 1) × (r .b ≡ b) × (r .next ≡ next) ⌝ }
+fn one(kind: u8, says: AtMost, next: usize) -> Node
+    ensures { λ r. ⌜ (r .times ≡ 1) × (r .says .b ≡ says .b) × (r .next ≡ next) ⌝ }
 {
     Node {
         kind: kind,
         times: 1,
-        x: x,
-        a: a,
-        y: y,
-        b: b,
+        says: says,
         next: next,
     }
 }
 
 // Over whole numbers x + a <= y + b is false exactly if y + b + 1 <= x + a.
 fn opposite(node: Node) -> Node
-    requires { ⌜ node .b ≤ 1000000 ⌝ }
+    requires { ⌜ node .says .b ≤ 1000000 ⌝ }
     ensures { λ r. ⌜ (r .times ≡ node .times) × (r .next ≡ node .next) ⌝ }
 {
+    let says = node.says;
     Node {
         kind: node.kind,
         times: node.times,
-        x: node.y,
-        a: node.b + 1,
-        y: node.x,
-        b: node.a,
+        says: at_most(says.y, says.b + 1, says.x, says.a),
         next: node.next,
     }
 }
@@ -200,32 +219,32 @@ fn read_join(text: &[u8], at: usize, kind: u8) -> Node
 // From a boolean's name on: 0 + 1 <= p.
 fn read_boolean(text: &[u8], at: usize) -> Node
     requires { ⌜ at ≤ length (now text) ⌝ }
-    ensures { λ r. ⌜ (r .times ≤ 23) × (r .b ≤ 1000000) × (r .next ≤ length (now (text .entry))) ⌝ }
+    ensures { λ r. ⌜ (r .times ≤ 23) × (r .says .b ≤ 1000000) × (r .next ≤ length (now (text .entry))) ⌝ }
 {
     let name = read_number(text, at);
     let p = name.value;
     if HIGHEST_BOOLEAN < p {
         return no_node(name.next);
     }
-    at_most(END, 0, 1, NUMBERS + p as usize, 0, name.next)
+    one(END, at_most(0, 1, NUMBERS + p as usize, 0), name.next)
 }
 
 // c is written as 2c, or as -2c - 1 if it is below 0: x <= y + c, or x + -c <= y.
 fn difference(x: u64, y: u64, written: u64, next: usize) -> Node
     requires { ⌜ (x ≤ 15) × (y ≤ 15) × (written ≤ 2000000) ⌝ }
-    ensures { λ r. ⌜ (r .times ≡ 1) × (r .b ≤ 1000000) × (r .next ≡ next) ⌝ }
+    ensures { λ r. ⌜ (r .times ≡ 1) × (r .says .b ≤ 1000000) × (r .next ≡ next) ⌝ }
 {
     let half = (written / 2) as u32;
     if written % 2 == 0 {
-        return at_most(END, x as usize, 0, y as usize, half, next);
+        return one(END, at_most(x as usize, 0, y as usize, half), next);
     }
-    at_most(END, x as usize, half + 1, y as usize, 0, next)
+    one(END, at_most(x as usize, half + 1, y as usize, 0), next)
 }
 
 // From a difference's first name on.
 fn read_difference(text: &[u8], at: usize) -> Node
     requires { ⌜ at ≤ length (now text) ⌝ }
-    ensures { λ r. ⌜ (r .times ≤ 23) × (r .b ≤ 1000000) × (r .next ≤ length (now (text .entry))) ⌝ }
+    ensures { λ r. ⌜ (r .times ≤ 23) × (r .says .b ≤ 1000000) × (r .next ≤ length (now (text .entry))) ⌝ }
 {
     let x = read_number(text, at);
     let y = read_number(text, x.next);
@@ -250,8 +269,8 @@ fn read_node(text: &[u8], at: usize) -> Node
     let tag = number.value;
     let next = number.next;
     match tag {
-        0 => at_most(CONSTANT, 0, 1, 0, 0, next),
-        1 => at_most(CONSTANT, 0, 0, 0, 0, next),
+        0 => one(CONSTANT, constant(false), next),
+        1 => one(CONSTANT, constant(true), next),
         2 => read_join(text, next, AND),
         3 => read_join(text, next, OR),
         4 => read_boolean(text, next),
@@ -262,25 +281,29 @@ fn read_node(text: &[u8], at: usize) -> Node
     }
 }
 
-fn put(tree: Tree, node: Node) -> Tree {
+pub fn set(tree: Tree, at: usize, kind: u8, says: AtMost) -> Tree
+    requires { ⌜ at < 96 ⌝ }
+{
+    let mut other = tree;
+    other.kind[at] = kind;
+    other.says[at] = says;
+    other
+}
+
+pub fn put(tree: Tree, kind: u8, says: AtMost) -> Tree {
     let at = tree.size;
-    if MOST_NODES <= at {
+    if ROOM <= at {
         return tree;
     }
-    let mut more = tree;
+    let mut more = set(tree, at, kind, says);
     more.size = at + 1;
-    more.kind[at] = node.kind;
-    more.x[at] = node.x;
-    more.a[at] = node.a;
-    more.y[at] = node.y;
-    more.b[at] = node.b;
     more
 }
 
 fn put_times(tree: Tree, node: Node) -> Tree {
     let mut more = tree;
     for _ in 0..node.times {
-        more = put(more, node);
+        more = put(more, node.kind, node.says);
     }
     more
 }

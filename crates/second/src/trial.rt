@@ -1,39 +1,48 @@
-// Tries every assignment of a range, and says whether two trees ever differ.
+// Tries the assignments whose values can matter, and says whether two trees ever differ.
 //
-// The range is complete. Whether two trees differ, or an end matters, depends only on which truth values the ends can have together.
-// A choice of these asks a set of differences of the numbers: x - y <= b - a for a true end, y - x <= a - b - 1 for a false one. No such
-// bound is larger in size than the longest step, the largest a or b + 1. A set that can be met is met as follows: each of the k numbers
-// used, and number 0, is the least sum of a chain of differences that leads to it, where the empty chain's sum is 0. A least chain meets
-// no number twice, so it has at most k differences, and each number lies at most k steps below 0. Taking number 0's value away from all
-// keeps the differences, and leaves each at most k steps from 0. Booleans have two values, and no end compares one with another name
-// than number 0.
+// Whether two trees differ depends only on which ends are true together. So the ends are said to be true or false one after the other,
+// only those that can still change the outcome, and each time values are sought that make it so: all begin equal, and where an end that
+// was said is not met, one value falls as little as meets it. Where no end is left to say, the values found are tried.
+//
+// That is complete. An end that was said asks that one name is at most another and a step: x at most y + b - a if it is true, y at most
+// x + a - b - 1 if it is false. Ends that can be met together are met where each name is the least sum of a chain of such steps that
+// leads to it; the empty chain's sum is where all begin. A value is always the sum of some chain, so it is never below the least. After
+// k rounds it is at most the least sum of a chain of at most k steps. A least chain meets no name twice: the part between would be a
+// closed chain, to be left out unless its sum is below 0, and then nothing meets its ends. So where they can be met together, the values
+// are at rest by the last of as many rounds as there are names.
+//
+// Number 0 is a name like the others, since ends ask only for differences. A boolean is true exactly if it is above number 0, and no end
+// compares it with another name: where it is neither 0 nor 1 it is still true or false, and that is all that it says.
 use crate::read::AND;
-use crate::read::END;
+use crate::read::AtMost;
+use crate::read::CONSTANT;
+use crate::read::DIFFERS;
 use crate::read::MOST_NODES;
 use crate::read::NAMES;
-use crate::read::NUMBERS;
 use crate::read::OR;
+use crate::read::ROOM;
 use crate::read::Tree;
-ghost use Prim.Native.Nat.{_+_, _≤_, _<_};
+use crate::read::constant;
+use crate::read::no_tree;
+use crate::read::put;
+use crate::read::set;
+ghost use Prim.Native.Nat.{_≤_, _<_};
 
-// More assignments than these are not tried.
-pub const MOST_TRIED: u64 = 100000;
+// Where all values begin: farther from 0 than 47 steps of 1,000,001, the longest.
+const HIGH: u32 = 100000000;
 
-// In place of an end that is changed: none is.
-pub const NONE: usize = MOST_NODES;
+// What is said of an end, and the value of a part of a tree: OPEN if neither is settled.
+const NO: u8 = 0;
 
-// The names used, and the longest step.
-struct Used {
-    names: [bool; NAMES],
-    step: u64,
-}
+const OPEN: u8 = 1;
 
-// From where to where each name's value goes, and how many assignments that makes. All values are higher by the reach than in the
-// condition, number 0's too, so that none is below 0.
-pub struct Range {
-    least: [u32; NAMES],
-    most: [u32; NAMES],
-    pub count: u64,
+const YES: u8 = 2;
+
+// The part of a tree from a node on: its value, the first end that can still change it, and where the next part begins.
+struct Part {
+    value: u8,
+    end: usize,
+    past: usize,
 }
 
 fn wide(v: u32) -> u64
@@ -53,190 +62,165 @@ fn value(values: &[u32; NAMES], name: usize) -> u64
 }
 
 // Whether x + a <= y + b.
-fn met(tree: Tree, i: usize, values: &[u32; NAMES]) -> bool
-    requires { ⌜ i < 48 ⌝ }
-{
-    value(values, tree.x[i]) + wide(tree.a[i]) <= value(values, tree.y[i]) + wide(tree.b[i])
+fn met(says: AtMost, values: &[u32; NAMES]) -> u8 {
+    let x = value(values, says.x) + wide(says.a);
+    let y = value(values, says.y) + wide(says.b);
+    if x <= y { YES } else { NO }
 }
 
-// The values that wait to be joined are binary digits, the last met lowest. At most 24 wait, so the remainder takes nothing away.
-fn push(waiting: u64, value: bool) -> u64 {
-    let others = waiting % 4294967296 * 2;
-    if value { others + 1 } else { others }
-}
-
-// What waits after node i, where nodes are met from right to left.
-fn joined(
-    tree: Tree,
-    i: usize,
-    values: &[u32; NAMES],
-    changed: usize,
-    to: bool,
-    waiting: u64,
-) -> u64
-    requires { ⌜ i < 48 ⌝ }
-{
-    let kind = tree.kind[i];
+// NO is the least and YES the most, so `and` is the lesser of two and `or` the greater.
+fn joined(kind: u8, u: u8, v: u8) -> u8 {
     if kind == AND {
-        return push(waiting / 4, waiting % 4 == 3);
+        return if u < v { u } else { v };
     }
     if kind == OR {
-        return push(waiting / 4, waiting % 4 != 0);
+        return if u < v { v } else { u };
     }
-    if i == changed {
-        return push(waiting, to);
+    if u == OPEN || v == OPEN {
+        return OPEN;
     }
-    push(waiting, met(tree, i, values))
+    if u == v { NO } else { YES }
 }
 
-// The tree's value, with the end at node `changed` made `to`.
-fn holds(tree: Tree, values: &[u32; NAMES], changed: usize, to: bool) -> bool {
-    let mut waiting = 0;
-    let mut i = tree.size;
-    if MOST_NODES < i {
-        return false;
-    }
-    while 0 < i {
-        i -= 1;
-        waiting = joined(tree, i, values, changed, to, waiting);
-    }
-    waiting == 1
-}
-
-fn larger(a: u64, b: u64) -> u64 {
-    if a < b { b } else { a }
-}
-
-// With an end's names and steps.
-fn with_end(used: Used, tree: Tree, i: usize) -> Used
-    requires { ⌜ i < 48 ⌝ }
+// The part from node i on. No whole tree asks for one past the room.
+fn part_at(kinds: &[u8; ROOM], said: &[u8; ROOM], i: usize) -> Part
+    requires { ⌜ i ≤ 96 ⌝ }
+    ensures { λ r. ⌜ (r .end < 96) × (i ≤ r .past) × (r .past ≤ 96) ⌝ }
 {
-    let x = tree.x[i];
-    let y = tree.y[i];
-    let mut more = used;
+    if ROOM <= i {
+        return Part {
+            value: NO,
+            end: 0,
+            past: ROOM,
+        };
+    }
+    let kind = kinds[i];
+    if kind < AND {
+        return Part {
+            value: said[i],
+            end: i,
+            past: i + 1,
+        };
+    }
+    let first = part_at(kinds, said, i + 1);
+    let second = part_at(kinds, said, first.past);
+    let end = if first.value == OPEN {
+        first.end
+    } else {
+        second.end
+    };
+    Part {
+        value: joined(kind, first.value, second.value),
+        end: end,
+        past: second.past,
+    }
+}
+
+// Whether the tree is true under these values.
+fn holds(tree: Tree, values: &[u32; NAMES]) -> bool {
+    let mut said = [OPEN; ROOM];
+    for i in 0..ROOM {
+        said[i] = met(tree.says[i], values);
+    }
+    part_at(&tree.kind, &said, 0).value == YES
+}
+
+// Whether x + a <= y + b; if not, x falls as little as makes it so. Ends that can be met together ask for no fall below 0.
+fn fall(values: &mut [u32; NAMES], x: usize, a: u64, y: usize, b: u64) -> bool
+    requires { ⌜ (a ≤ 4294967296) × (b ≤ 4294967296) ⌝ }
+{
+    let high = value(values, y) + b;
+    let now = value(values, x);
+    if now + a <= high {
+        return true;
+    }
     if x < NAMES {
-        more.names[x] = true;
-    }
-    if y < NAMES {
-        more.names[y] = true;
-    }
-    more.step = larger(used.step, larger(wide(tree.a[i]), wide(tree.b[i]) + 1));
-    more
-}
-
-fn with_tree(used: Used, tree: Tree) -> Used {
-    let mut more = used;
-    for i in 0..MOST_NODES {
-        if tree.kind[i] == END {
-            more = with_end(more, tree, i);
+        if a <= high {
+            values[x] = (high - a) as u32;
         }
-    }
-    more
-}
-
-// The reach, a step farther if a number is used. MOST_TRIED is too far already.
-fn farther(reach: u64, is_used: bool, step: u64) -> u64
-    requires { ⌜ reach ≤ 100000 ⌝ }
-    ensures { λ r. ⌜ r ≤ 100000 ⌝ }
-{
-    if !is_used {
-        return reach;
-    }
-    if MOST_TRIED - reach < step {
-        return MOST_TRIED;
-    }
-    reach + step
-}
-
-// A step for each number used.
-fn reach_of(used: Used) -> u64
-    ensures { λ r. ⌜ r ≤ 100000 ⌝ }
-{
-    let mut reach = 0;
-    for x in 1..NUMBERS {
-        reach = farther(reach, used.names[x], used.step);
-    }
-    reach
-}
-
-// How many assignments there are once a name more has n values. More than MOST_TRIED are not counted on.
-fn times(count: u64, n: u64) -> u64
-    requires { ⌜ n ≤ 1000000 ⌝ }
-{
-    if MOST_TRIED < count {
-        return count;
-    }
-    count * n
-}
-
-// With a name's n values, from `least` on.
-fn with_name(range: Range, name: usize, least: u64, n: u64) -> Range
-    requires { ⌜ (name < 48) × (1 ≤ n) × (least + n ≤ 1000000) ⌝ }
-{
-    let mut more = range;
-    more.least[name] = least as u32;
-    more.most[name] = (least + n - 1) as u32;
-    more.count = times(range.count, n);
-    more
-}
-
-// Numbers go from 0 to twice the reach, number 0 is the reach, and booleans are that or one more.
-fn range_with(range: Range, used: Used, name: usize, reach: u64) -> Range
-    requires { ⌜ (name < 48) × (reach ≤ 100000) ⌝ }
-{
-    if used.names[name] {
-        if name < NUMBERS {
-            return with_name(range, name, 0, 2 * reach + 1);
-        }
-        return with_name(range, name, reach, 2);
-    }
-    with_name(range, name, reach, 1)
-}
-
-// The range that is complete for two trees.
-pub fn range_of(a: Tree, b: Tree) -> Range {
-    let nothing = Used {
-        names: [false; NAMES],
-        step: 0,
-    };
-    let used = with_tree(with_tree(nothing, a), b);
-    let reach = reach_of(used);
-    let mut range = Range {
-        least: [0; NAMES],
-        most: [0; NAMES],
-        count: 1,
-    };
-    range = with_name(range, 0, reach, 1);
-    for name in 1..NAMES {
-        range = range_with(range, used, name, reach);
-    }
-    range
-}
-
-// A value counted up, or from its most back to its least.
-fn counted(v: u32, least: u32, most: u32) -> u32 {
-    if v < most { v + 1 } else { least }
-}
-
-// The next assignment, as digits are counted up: one that comes back to its least carries to the next.
-fn advance(values: &mut [u32; NAMES], range: Range) {
-    for name in 0..NAMES {
-        let least = range.least[name];
-        values[name] = counted(values[name], least, range.most[name]);
-        if values[name] != least {
-            return;
-        }
-    }
-}
-
-// Whether some assignment of the range gives a another value than b with its end at node `changed` made `to`.
-pub fn differ(a: Tree, b: Tree, changed: usize, to: bool, range: Range) -> bool {
-    let mut values = range.least;
-    for _ in 0..range.count {
-        if holds(a, &values, NONE, false) != holds(b, &values, changed, to) {
-            return true;
-        }
-        advance(&mut values, range);
     }
     false
+}
+
+// Whether an end is as was said; if not, a value falls. Over whole numbers x + a <= y + b is false exactly if y + b + 1 <= x + a.
+fn ask(values: &mut [u32; NAMES], says: AtMost, so: u8) -> bool {
+    let a = wide(says.a);
+    let b = wide(says.b);
+    if so == YES {
+        return fall(values, says.x, a, says.y, b);
+    }
+    if so == NO {
+        return fall(values, says.y, b + 1, says.x, a);
+    }
+    true
+}
+
+// Whether each end is as was said, with no fall.
+fn round(values: &mut [u32; NAMES], tree: Tree, said: &[u8; ROOM]) -> bool {
+    let mut rest = true;
+    for i in 0..ROOM {
+        if !ask(values, tree.says[i], said[i]) {
+            rest = false;
+        }
+    }
+    rest
+}
+
+// Whether the values come to rest.
+fn settle(values: &mut [u32; NAMES], tree: Tree, said: &[u8; ROOM]) -> bool {
+    for _ in 0..NAMES {
+        if round(values, tree, said) {
+            return true;
+        }
+    }
+    false
+}
+
+// Whether some assignment makes the tree true and each end as was said. No end is said twice, so `left` never runs out; if it did, the
+// answer would show.
+fn some(tree: Tree, said: &[u8; ROOM], left: usize) -> bool {
+    let mut values = [HIGH; NAMES];
+    if !settle(&mut values, tree, said) {
+        return false;
+    }
+    let top = part_at(&tree.kind, said, 0);
+    if top.value != OPEN {
+        return holds(tree, &values);
+    }
+    if left == 0 {
+        return true;
+    }
+    let end = top.end;
+    let mut more = *said;
+    more[end] = YES;
+    if some(tree, &more, left - 1) {
+        return true;
+    }
+    more[end] = NO;
+    some(tree, &more, left - 1)
+}
+
+// With the other's nodes after its own.
+fn put_tree(tree: Tree, other: Tree) -> Tree {
+    let mut more = tree;
+    for i in 0..MOST_NODES {
+        if i < other.size {
+            more = put(more, other.kind[i], other.says[i]);
+        }
+    }
+    more
+}
+
+// Whether some assignment gives the two another value.
+pub fn differ(a: Tree, b: Tree) -> bool {
+    let top = put(no_tree(), DIFFERS, constant(false));
+    let said = [OPEN; ROOM];
+    some(put_tree(put_tree(top, a), b), &said, ROOM)
+}
+
+// The tree with node i made true or false.
+pub fn made(tree: Tree, i: usize, so: bool) -> Tree
+    requires { ⌜ i < 96 ⌝ }
+{
+    set(tree, i, CONSTANT, constant(so))
 }

@@ -5,10 +5,10 @@ use Rattle.second.proofs.first_redundant.Statement.{statement}
 use Rattle.second.proofs.first_redundant.Tie as tie
 
 abbrev Inv-loop : tie.InvT-loop
-Inv-loop tree range i₀ i = Unit {0}
+Inv-loop tree i₀ i = Unit {0}
 
 abbrev μ-loop : tie.MeasureT-loop
-μ-loop tree range i₀ i = 48 - i
+μ-loop tree i₀ i = 48 - i
 
 pub first-redundant-spec : {M : Type 1} → statement M
 first-redundant-spec =
