@@ -1,9 +1,9 @@
 //! One input given to the library and to the plain implementation, and a count of what was answered and what differed.
 
 use crate::dice::Dice;
-use crate::document::{self, Refusal, Swept, DONE, RATION_USED_UP};
 use crate::lent::Lent;
 use crate::library;
+use plain::document::{self, Refusal, Swept, DONE, RATION_USED_UP};
 use std::collections::BTreeSet;
 use std::fmt::Write;
 

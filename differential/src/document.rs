@@ -286,7 +286,7 @@ pub fn count_ends(tree: &Tree) -> usize {
 }
 
 /// The paths of the ends that are no constants, from left to right.
-fn ends(tree: &Tree) -> Vec<Path> {
+pub fn ends(tree: &Tree) -> Vec<Path> {
     match tree {
         Constant(_) => Vec::new(),
         And(children) | Or(children) => {

@@ -3,7 +3,6 @@
 
 mod compare;
 mod dice;
-mod document;
 mod generator;
 mod lent;
 mod library;
@@ -11,6 +10,7 @@ mod worked;
 
 use compare::{Tally, CALLS};
 use dice::Dice;
+use plain::document;
 use std::process::ExitCode;
 use std::time::Instant;
 

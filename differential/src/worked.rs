@@ -2,8 +2,8 @@
 
 use crate::compare::hex;
 use crate::dice::Dice;
-use crate::document::{self, Path, Refusal, Tree};
 use crate::generator;
+use plain::document::{self, Path, Refusal, Tree};
 
 /// Hex, ration, questions, whether finished, result, of the worked trees 1 to 12 in order.
 const TREES: [(&str, u32, u32, bool, &str); 15] = [
