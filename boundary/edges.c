@@ -1,4 +1,4 @@
-/* The edges of the C boundary: lengths of 0, rooms beside the result's, assignments of 14 and 16 numbers, every refusal. Each buffer lies
+/* The edges of the C boundary: lengths of 0, NULL with a length of 0, rooms beside the result's, assignments of 14 and 16 numbers, every refusal. Each buffer lies
  * between guard bytes; what an answer may not write must hold what it held. Prints the calls made, or the first that is wrong. */
 #include "travelring.h"
 #include <stdalign.h>
@@ -100,6 +100,31 @@ static void find(const char *hex, size_t count, uint32_t answer, uint64_t place)
     }
 }
 
+/* NULL for each run of length 0, alone and all at once. 11 and then 1 come before what another run would give. */
+static void nothing_lent(void) {
+    size_t len;
+    uint8_t *tree = typed("04 00", &len), *out = lend(&other_lent);
+    int32_t numbers[TRAVELRING_NUMBERS] = {0};
+    uint64_t *report = lend(&report_lent);
+    must(travelring_trim(NULL, 0, 600, out, MOST, report) == 1 && report[0] == 0, "trim of NULL");
+    must(travelring_trim(tree, len, 600, NULL, 0, report) == 9 && report[0] == 2, "trim into NULL");
+    must(travelring_trim(NULL, 0, 600, NULL, 0, report) == 1 && report[0] == 0, "trim of NULL into NULL");
+    must(report[1] == 0 && report[2] == 0 && kept(&report_lent, 24), "trim's report without a buffer");
+    report = lend(&report_lent);
+    must(travelring_judge(NULL, 0, 0, numbers, TRAVELRING_NUMBERS, report) == 1 && report[0] == 0, "judge of NULL");
+    must(travelring_judge(tree, len, 0, NULL, 0, report) == 11 && report[0] == 0, "judge under NULL");
+    must(travelring_judge(NULL, 0, 0, NULL, 0, report) == 11 && report[0] == 0, "judge of NULL under NULL");
+    must(travelring_find(NULL, 0, numbers, TRAVELRING_NUMBERS, report) == 1 && report[0] == 0, "find of NULL");
+    must(travelring_find(tree, len, NULL, 0, report) == 11 && report[0] == 0, "find into NULL");
+    must(travelring_find(NULL, 0, NULL, 0, report) == 11 && report[0] == 0, "find of NULL into NULL");
+    must(report[1] == 0 && kept(&report_lent, 16), "a report without a buffer");
+    must(kept(&other_lent, 0) && kept(&tree_lent, len), "a call without a buffer wrote another");
+    for (int i = 0; i < TRAVELRING_NUMBERS; i++)
+        must(numbers[i] == 0, "find of NULL wrote a number");
+    must(travelring_length(NULL, 0) == 0, "the length of NULL");
+    calls += 9;
+}
+
 /* Document 01's refused strings; each is refused by all three, and by trim without regard to ration and room. */
 static const struct {
     const char *hex;
@@ -157,6 +182,7 @@ int main(void) {
     find("00", 15, 12, 0);
     find("02 02 04 00 05 00", 15, 12, 0);
     find(tree_8, 15, 0, 0);
+    nothing_lent();
     printf("edges: %d calls, none wrong\n", calls);
     return 0;
 }

@@ -1,4 +1,4 @@
-/* Trims one condition and says the answer in words: example [HEX..]; with no bytes, tree 8 of document 01. */
+/* Trims one condition and says the answer in words: example [HEX..]; with no bytes, tree 8 of docs/CONDITIONS.md. */
 #include "travelring.h"
 #include <inttypes.h>
 #include <stdio.h>

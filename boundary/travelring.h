@@ -1,5 +1,5 @@
-/* Travelring's three calls from C. Each returns document 01's number of its answer and writes a report; it keeps nothing between calls and
- * allocates nothing.
+/* Travelring's three calls from C. Each returns the number of its answer and writes a report; it keeps nothing between calls and allocates
+ * nothing. docs/CONDITIONS.md tells the rules: what a condition is, its bytes, when each answer is given, what trimming does.
  *
  * Answers, and the place that comes with each. A place in the bytes counts from 0, and a number's place is its first byte.
  *
@@ -21,11 +21,12 @@
  * Order: 11 comes first; then 1 to 8, the first met from left to right; then 12 or 9; then 10 or 0.
  *
  * What is lent:
- * - A run of bytes or numbers is lent as a pointer to its first and a count. The count may be 0: then the pointer is not followed, but it
- *   must still be one that is not NULL and is aligned for its type, as a pointer to any object of that type is.
+ * - A run of bytes or numbers is lent as a pointer to its first and a count. The count may be 0: then the pointer is not followed, and may
+ *   be NULL. The report is never NULL.
  * - The report is written in every answer, and needs no values before.
- * - All answers but trim's 0 and 10 and find's 0 leave the other buffers as they were.
- * - Buffers that are lent to one call must not overlap.
+ * - Trim's output is written by its answers 0 and 10 alone, find's numbers by its answer 0 alone; all other answers leave them as they were.
+ *   What is lent as const is never written.
+ * - Buffers that are lent to one call must not overlap: to trim a condition in place, copy it first.
  * - An assignment is 32 boolean bits, boolean p being the bit of weight 2^p, and 15 numbers for the names 1 to 15, in order: the number named
  *   x stands at index x - 1. Number 0 is always 0. */
 #ifndef TRAVELRING_H

@@ -1,4 +1,4 @@
-//! Trims one condition and says the answer in words: trim [HEX..]; with no bytes, tree 8 of document 01.
+//! Trims one condition and says the answer in words: trim [HEX..]; with no bytes, tree 8 of docs/CONDITIONS.md.
 use travelring::{trim_to_vec, Answer, QUESTIONS};
 
 const TREE_8: [u8; 16] = [2, 2, 6, 1, 0, 10, 3, 2, 6, 1, 0, 6, 7, 1, 0, 10]; // x <= 5 and (x <= 3 or not x <= 5)

@@ -1,7 +1,8 @@
-//! Travelring's three calls from Rust: each is the proved function of the same name, with its answer as a type.
+//! Travelring's three calls from Rust: each is the proved function of the same name, with its answer as a type. docs/CONDITIONS.md of the
+//! repository tells the rules: what a condition (a tree) is, its bytes, when each answer is given, what trimming does.
 //!
-//! A tree is given as document 01's bytes. An assignment is 32 boolean bits, boolean p being the bit of weight 2^p, and 15 numbers for the
-//! names 1 to 15, in order. A refusal leaves every lent buffer as it was.
+//! An assignment is 32 boolean bits, boolean p being the bit of weight 2^p, and 15 numbers for the names 1 to 15, in order. A refusal
+//! leaves every lent buffer as it was.
 use std::fmt;
 
 extern "C" {
@@ -17,7 +18,7 @@ pub const LONGEST: usize = 190;
 /// No tree needs more questions: n(n+1) for 24 ends.
 pub const QUESTIONS: u32 = 600;
 
-/// Document 01's answers, by its numbers.
+/// The answers, by their numbers.
 #[derive(Clone, Copy, Debug, PartialEq, Eq, Hash)]
 #[repr(u32)]
 pub enum Answer {
@@ -54,7 +55,7 @@ use Answer::*;
 impl Answer {
     const ALL: [Answer; 13] = [Finished, Ended, Form, Tag, Count, Name, Bound, Crowd, After, Long, Stopped, Unfit, Nothing];
 
-    /// Document 01's number.
+    /// The answer's number.
     pub fn number(self) -> u32 {
         self as u32
     }

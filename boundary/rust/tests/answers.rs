@@ -1,4 +1,4 @@
-//! The wrapper gives each answer of document 01 its name, with its place.
+//! The wrapper gives each answer its name, with its place.
 use travelring::Answer::*;
 use travelring::{find, judge, length, trim, trim_to_vec, Answer, Refusal, Trimmed};
 
