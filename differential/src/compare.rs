@@ -3,7 +3,7 @@
 use crate::dice::Dice;
 use crate::lent::Lent;
 use crate::library;
-use plain::document::{self, Refusal, Swept, DONE, RATION_USED_UP};
+use rules::document::{self, Refusal, Swept, DONE, RATION_USED_UP};
 use std::collections::BTreeSet;
 use std::fmt::Write;
 

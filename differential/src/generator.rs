@@ -1,7 +1,7 @@
 //! The seeded inputs: trees of every shape, the same damaged, and strings over tags and edge bytes.
 
 use crate::dice::Dice;
-use plain::document::write_number;
+use rules::document::write_number;
 
 /// Bytes at and beside the edges of tags, counts, names and number forms.
 pub const EDGE_BYTES: [u8; 20] =

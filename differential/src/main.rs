@@ -10,7 +10,7 @@ mod worked;
 
 use compare::{Tally, CALLS};
 use dice::Dice;
-use plain::document;
+use rules::document;
 use std::process::ExitCode;
 use std::time::Instant;
 

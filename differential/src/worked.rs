@@ -3,7 +3,7 @@
 use crate::compare::hex;
 use crate::dice::Dice;
 use crate::generator;
-use plain::document::{self, Path, Refusal, Tree};
+use rules::document::{self, Path, Refusal, Tree};
 
 /// Hex, ration, questions, whether finished, result, of the worked trees 1 to 12 in order.
 const TREES: [(&str, u32, u32, bool, &str); 15] = [

@@ -1,8 +1,8 @@
 //! Prints what the programs `worked`, `judge`, `find` and `second` must print, by the plain implementation of document 01: stored NAME,
 //! with the program's input on standard input. ../stored compares that with the stored files that the gate compares the programs with.
 
-use plain::document::{self, Refusal, DONE, RATION_USED_UP};
-use plain::typed::{Line, Stuck};
+use rules::document::{self, Refusal, DONE, RATION_USED_UP};
+use rules::typed::{Line, Stuck};
 use std::io::{Read, Write};
 use std::process::ExitCode;
 
