@@ -1,4 +1,4 @@
-# For the scripts of this folder: they run at the repository's root and put what they make under target/boundary.
+# For the scripts of boundary/ and bench/: they run at the repository's root. Those of boundary/ put what they make under target/boundary.
 cd "$(dirname "${BASH_SOURCE[0]}")/.."
 made="$PWD/target/boundary"
 mkdir -p "$made"
