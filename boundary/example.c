@@ -25,7 +25,7 @@ static const char *words(uint32_t answer) {
 
 int main(int argc, char **argv) {
     uint8_t tree[256], out[TRAVELRING_LONGEST];
-    uint64_t report[3];
+    uint64_t report[4];
     size_t len = 0;
     for (int i = 1; i < argc && len < sizeof tree; i++)
         tree[len++] = (uint8_t)strtoul(argv[i], NULL, 16);
@@ -39,8 +39,7 @@ int main(int argc, char **argv) {
         return 1;
     }
     printf("Questions asked: %" PRIu64 ". Ends left: %" PRIu64 ". The condition now:", report[1], report[2]);
-    size_t length = travelring_length(out, sizeof out);
-    for (size_t i = 0; i < length; i++)
+    for (size_t i = 0; i < report[3]; i++)
         printf(" %02x", out[i]);
     printf("\n");
     return 0;

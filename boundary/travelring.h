@@ -3,27 +3,27 @@
  *
  * Answers, and the place that comes with each. A place in the bytes counts from 0, and a number's place is its first byte.
  *
- *   no. given exactly when                                                      place             by
- *    0  finished (trim), judged, or found                                       0                 all
- *    1  bytes end inside the tree                                               input length      all
- *    2  a number's third byte has the top bit, or the form isn't shortest       its first byte    all
- *    3  tag above 7                                                             the tag           all
- *    4  child count 0 or 1                                                      the count         all
- *    5  name too high (a boolean above 31, a number above 15)                   the name          all
- *    6  written c above 2,000,000                                               c                 all
- *    7  after a child count, ends read plus ends still owed exceed 24           connective's tag  all
- *    8  bytes follow the tree                                                   first of them     all
- *    9  result, a stopped one too, longer than the output buffer                bytes needed      trim
- *   10  ration used up before the sweep ended (a stop, no refusal)              0                 trim
- *   11  assignment buffer isn't 15 numbers                                      0                 judge, find
- *   12  no satisfying assignment                                                0                 find
+ *   no. given exactly when                                                 place                 by
+ *    0  finished (trim), judged, or found                                  0                     all
+ *    1  bytes end inside the tree                                          input length          all
+ *    2  a number's third byte has the top bit, or the form isn't shortest  its first byte        all
+ *    3  tag above 7                                                        the tag               all
+ *    4  child count 0 or 1                                                 the count             all
+ *    5  name too high (a boolean above 31, a number above 15)              the name              all
+ *    6  written c above 2,000,000                                          c                     all
+ *    7  after a child count, ends read plus ends still owed exceed 24      the connective's tag  all
+ *    8  bytes follow the tree                                              first of them         all
+ *    9  result, a stopped one too, longer than the output buffer           bytes needed          trim
+ *   10  ration used up before the sweep ended (a stop, no refusal)         0                     trim
+ *   11  assignment buffer isn't 15 numbers                                 0                     judge, find
+ *   12  no satisfying assignment (find)                                    0                     find
  *
  * Order: 11 comes first; then 1 to 8, the first met from left to right; then 12 or 9; then 10 or 0.
  *
  * What is lent:
  * - A run of bytes or numbers is lent as a pointer to its first and a count. The count may be 0: then the pointer is not followed, and may
  *   be NULL. The report is never NULL.
- * - The report is written in every answer, and needs no values before.
+ * - The report is written in every answer, and needs no values before. Trim's has four numbers, judge's and find's have two.
  * - Trim's output is written by its answers 0 and 10 alone, find's numbers by its answer 0 alone; all other answers leave them as they were.
  *   What is lent as const is never written.
  * - Buffers that are lent to one call must not overlap: to trim a condition in place, copy it first.
@@ -51,35 +51,32 @@ enum {
     TRAVELRING_NOTHING = 12
 };
 
-#define TRAVELRING_NUMBERS 15    /* numbers of an assignment */
-#define TRAVELRING_LONGEST 190   /* bytes of the longest tree: room for every result */
-#define TRAVELRING_QUESTIONS 600 /* no tree needs more: n(n+1) for 24 ends */
+/* Whether the answer refuses the bytes themselves, which are then no tree. */
+static inline int travelring_of_reading(uint32_t answer) { return answer >= TRAVELRING_ENDED && answer <= TRAVELRING_AFTER; }
+
+typedef int32_t travelring_whole; /* a number of an assignment */
+
+#define TRAVELRING_NUMBERS 15        /* numbers of an assignment */
+#define TRAVELRING_LONGEST 190       /* bytes of the longest tree: room for every result */
+#define TRAVELRING_QUESTIONS 600     /* no tree needs more: n(n+1) for 24 ends */
+#define TRAVELRING_FARTHEST 15000015 /* no number that find writes lies farther from 0 */
 
 #ifdef __cplusplus
 extern "C" {
 #endif
 
-/* Trims the tree with at most `ration` questions. report: place, questions asked, ends of the result (constants count 0).
- * Answers 0 and 10 write the result from out's start; bytes beyond it stay, and travelring_length gives its length. All other answers
- * write nothing to out and report 0 questions and 0 ends. */
-uint32_t travelring_trim(const uint8_t *tree, size_t tree_len, uint32_t ration, uint8_t *out, size_t out_len, uint64_t report[3]);
+/* Trims the tree with at most `ration` questions. report: place, questions asked, ends of the result (constants count 0), bytes written.
+ * Answers 0 and 10 write the result from out's start, as many bytes as the report says last; bytes beyond it stay. All other answers write
+ * nothing to out and report 0 questions, 0 ends and 0 bytes. */
+uint32_t travelring_trim(const uint8_t *tree, size_t tree_len, uint32_t ration, uint8_t *out, size_t out_len, uint64_t report[4]);
 
 /* Judges the tree under the assignment. report: place, value (1 true, 0 false; a refusal carries 0). */
-uint32_t travelring_judge(const uint8_t *tree, size_t tree_len, uint32_t flags, const int32_t *numbers, size_t numbers_len,
+uint32_t travelring_judge(const uint8_t *tree, size_t tree_len, uint32_t flags, const travelring_whole *numbers, size_t numbers_len,
                           uint64_t report[2]);
 
 /* Finds an assignment that makes the tree true. report: place, boolean bits (0 in a refusal). Answer 0 fills the 15 numbers, each from
  * -15,000,015 to 15,000,015; all other answers leave them. Which satisfying assignment it shows is free. */
-uint32_t travelring_find(const uint8_t *tree, size_t tree_len, int32_t *numbers, size_t numbers_len, uint64_t report[2]);
-
-/* The length of the tree that the bytes begin with, or 0 if they begin with none. A tree's bytes say where it ends, so judging
- * it answers 8 at the first byte after it. */
-static inline size_t travelring_length(const uint8_t *bytes, size_t len) {
-    const int32_t numbers[TRAVELRING_NUMBERS] = {0};
-    uint64_t report[2];
-    uint32_t answer = travelring_judge(bytes, len, 0, numbers, TRAVELRING_NUMBERS, report);
-    return answer == TRAVELRING_FINISHED ? len : answer == TRAVELRING_AFTER ? (size_t)report[0] : 0;
-}
+uint32_t travelring_find(const uint8_t *tree, size_t tree_len, travelring_whole *numbers, size_t numbers_len, uint64_t report[2]);
 
 #ifdef __cplusplus
 }

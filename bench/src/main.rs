@@ -3,12 +3,13 @@ mod proved;
 #[cfg(feature = "z3")]
 mod z3;
 
+use plain::limits::{ENDS, FINISHED, LONGEST, NOTHING, NUMBERS};
 use plain::tree::{ends, Node};
-use plain::{reading, search, sweep, writing};
+use plain::{reading, search, sweep};
 use std::hint::black_box;
 
-const RATION: u32 = 600;
-const ROOM: usize = 190;
+/// Enough for every condition: n(n+1) questions for n ends.
+const RATION: u32 = (ENDS * (ENDS + 1)) as u32;
 const TIMES: &str = "microseconds a call: program, median, mean, 90th hundredth, worst";
 
 fn conditions(path: &str) -> Vec<Vec<u8>> {
@@ -90,12 +91,12 @@ fn measure_find(set: &[Vec<u8>]) {
     let (mut ours, mut plain) = (Program::new("proved"), Program::new("plain"));
     let mut satisfiable = 0;
     for tree in set {
-        let (mut a, mut b) = ([0; 15], [0; 15]);
+        let (mut a, mut b) = ([0; NUMBERS], [0; NUMBERS]);
         let (one, other) = (proved::find(tree, &mut a), plain::find(tree, &mut b));
         assert_eq!(one.answer, other.answer, "the two disagree on {tree:02x?}");
-        satisfiable += (one.answer == 0) as u32;
+        satisfiable += (one.answer == FINISHED) as u32;
         for (found, numbers) in [(one, a), (other, b)] {
-            assert!(found.answer == 12 || plain::judge(tree, found.bits, &numbers).value, "not satisfied: {tree:02x?}");
+            assert!(found.answer == NOTHING || plain::judge(tree, found.bits, &numbers).value, "not satisfied: {tree:02x?}");
         }
         ours.times.push(time(7, || proved::find(black_box(tree), &mut a)));
         plain.times.push(time(7, || plain::find(black_box(tree), &mut b)));
@@ -107,14 +108,14 @@ fn measure_find(set: &[Vec<u8>]) {
     println!("proved mean: {:.2} times the plain program's", ours.mean() / plain.mean());
 }
 
-/// All programs agree on the answer, the questions, the ends and the bytes of the result; then all are timed.
+/// All programs agree on the answer, the questions, the ends, the length and the bytes of the result; then all are timed.
 fn measure_trim(set: &[Vec<u8>]) {
     let (mut ours, mut plain) = (Program::new("proved"), Program::new("plain"));
     let (mut read, mut questions) = (0, 0);
     #[cfg(feature = "z3")]
     let mut others = Others::new();
     for tree in set {
-        let (mut a, mut b) = ([0xee; ROOM], [0xee; ROOM]);
+        let (mut a, mut b) = ([0xee; LONGEST], [0xee; LONGEST]);
         let (one, other) = (proved::trim(tree, RATION, &mut a), plain::trim(tree, RATION, &mut b));
         assert_eq!((one, a), (other, b), "the two disagree on {tree:02x?}");
         let nodes = reading::read(tree).expect("a condition of the set reads");
@@ -122,8 +123,7 @@ fn measure_trim(set: &[Vec<u8>]) {
         assert!(same_meaning(&nodes, &swept.nodes), "another meaning: {tree:02x?}");
         read += ends(&nodes).count();
         questions += swept.asked as u64;
-        let length = writing::write(&swept.nodes).len();
-        let results = [a, b].map(|out| reading::read(&out[..length]).expect("a result reads"));
+        let results = [a, b].map(|out| reading::read(&out[..other.bytes as usize]).expect("a result reads"));
         ours.note(time(7, || proved::trim(black_box(tree), RATION, &mut a)), &results[0]);
         plain.note(time(7, || plain::trim(black_box(tree), RATION, &mut b)), &results[1]);
         #[cfg(feature = "z3")]

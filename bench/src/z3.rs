@@ -1,5 +1,6 @@
 //! The same sweep asked of z3, question by question, and z3's own tactic ctx-solver-simplify; through z3's C interface.
 use plain::folding::fold;
+use plain::limits::{Whole, LAST_BOOLEAN, NUMBERS};
 use plain::sweep::{constraint, Swept};
 use plain::tree::{ends, Node};
 use std::ffi::{c_char, c_int, c_uint, c_void, CString};
@@ -99,8 +100,8 @@ impl Context {
             Z3_del_config(config);
             let (bool, int) = (Z3_mk_bool_sort(c), Z3_mk_int_sort(c));
             let named = |name: String, sort| Z3_mk_const(c, symbol(c, &name), sort);
-            let booleans = (0..32).map(|p| named(format!("b{p}"), bool)).collect();
-            let numbers = (0..16).map(|x| if x == 0 { Z3_mk_int(c, 0, int) } else { named(format!("n{x}"), int) }).collect();
+            let booleans = (0..=LAST_BOOLEAN).map(|p| named(format!("b{p}"), bool)).collect();
+            let numbers = (0..=NUMBERS).map(|x| if x == 0 { Z3_mk_int(c, 0, int) } else { named(format!("n{x}"), int) }).collect();
             Context { c, booleans, numbers, int }
         }
     }
@@ -249,29 +250,33 @@ fn text(context: &Context, ast: Ptr) -> String {
     unsafe { std::ffi::CStr::from_ptr(Z3_ast_to_string(context.c, ast)) }.to_string_lossy().into_owned()
 }
 
+/// A sum: entry x is number x's coefficient, the last the constant.
+type Sum = [i64; CONSTANT + 1];
+const CONSTANT: usize = NUMBERS + 1;
+
 /// A comparison of sums as x - y <= c or (false) its negation: its coefficients, all on the left, are 1 at x, -1 at y and 0 elsewhere.
 fn difference(context: &Context, kind: c_uint, args: &[Ptr], so: bool) -> Option<Node> {
     let sign = if kind == LE { 1 } else { -1 };
-    let mut sum = [0i64; 17];
+    let mut sum: Sum = [0; CONSTANT + 1];
     add(context, args[0], sign, &mut sum)?;
     add(context, args[1], -sign, &mut sum)?;
-    let at = |coefficient| (1..16).filter(move |&x| sum[x] == coefficient);
-    let others = (1..16).filter(|&x| sum[x].abs() > 1).count();
+    let at = |coefficient| (1..=NUMBERS).filter(move |&x| sum[x] == coefficient);
+    let others = (1..=NUMBERS).filter(|&x| sum[x].abs() > 1).count();
     if others > 0 || at(1).count() > 1 || at(-1).count() > 1 {
         return None;
     }
-    Some(Node::Bound(so, at(1).next().unwrap_or(0) as u8, at(-1).next().unwrap_or(0) as u8, -sum[16] as i32))
+    Some(Node::Bound(so, at(1).next().unwrap_or(0) as u8, at(-1).next().unwrap_or(0) as u8, -sum[CONSTANT] as Whole))
 }
 
-/// Adds a term times a factor: entry x of the sum is number x's coefficient, entry 16 the constant.
-fn add(context: &Context, ast: Ptr, factor: i64, sum: &mut [i64; 17]) -> Option<()> {
+/// Adds a term times a factor.
+fn add(context: &Context, ast: Ptr, factor: i64, sum: &mut Sum) -> Option<()> {
     let c = context.c;
     let numeral = |ast| {
         let mut value = 0;
         unsafe { kind(c, ast) == NUMERAL && Z3_get_numeral_int(c, ast, &mut value) }.then_some(value as i64)
     };
     if let Some(value) = numeral(ast) {
-        sum[16] += factor * value;
+        sum[CONSTANT] += factor * value;
         return Some(());
     }
     let (kind, args) = (kind(c, ast), args(c, ast));

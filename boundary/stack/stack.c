@@ -15,8 +15,8 @@ static uint8_t tree[256];
 static size_t len;
 
 static uint8_t out[TRAVELRING_LONGEST];
-static int32_t numbers[TRAVELRING_NUMBERS];
-static uint64_t report[3];
+static travelring_whole numbers[TRAVELRING_NUMBERS];
+static uint64_t report[4];
 static uint32_t answer;
 
 __attribute__((noinline)) static void call_nothing(void) { __asm__ volatile(""); }
@@ -62,7 +62,7 @@ static void measure(const char *shape) {
     trees++;
     for (int i = 0; i < 3; i++) {
         size_t now = used(calls[i].call) - base;
-        refused += answer >= 1 && answer <= 8;
+        refused += (size_t)travelring_of_reading(answer);
         if (now > calls[i].most) {
             calls[i].most = now;
             calls[i].len = len;
@@ -78,7 +78,7 @@ static int kind, next_end;
 
 static void put_end(int last) {
     int i = next_end++;
-    uint8_t x = (uint8_t)(1 + i % 15), y = (uint8_t)(i % 15), c = (uint8_t)(2 * i), not_first = i > 0 && !last;
+    uint8_t y = (uint8_t)(i % TRAVELRING_NUMBERS), x = (uint8_t)(y + 1), c = (uint8_t)(2 * i), not_first = i > 0 && !last;
     uint8_t ends[][4] = {
         {4, (uint8_t)i},                          /* booleans, all different */
         {(uint8_t)(4 + i % 2), (uint8_t)(i / 2)}, /* p, not p, q, not q .. */

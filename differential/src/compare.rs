@@ -3,7 +3,8 @@
 use crate::dice::Dice;
 use crate::lent::Lent;
 use crate::library;
-use rules::document::{self, Refusal, Swept, DONE, RATION_USED_UP};
+use rules::document::{self, Refusal, Swept, Whole, ANSWERS, ENDS, HIGHEST_BOOLEAN, HIGHEST_BOUND, LONGEST, NUMBERS};
+use rules::document::{DONE, NOT_15_NUMBERS, NO_ASSIGNMENT, RATION_USED_UP, REFUSALS_OF_READING, ROOM_TOO_SMALL};
 use std::collections::BTreeSet;
 use std::fmt::Write;
 
@@ -12,20 +13,26 @@ const TRIM: usize = 0;
 const JUDGE: usize = 1;
 const FIND: usize = 2;
 
-/// The answers that document 01 has for each call.
-const POSSIBLE: [&[usize]; 3] =
-    [&[0, 1, 2, 3, 4, 5, 6, 7, 8, 9, 10], &[0, 1, 2, 3, 4, 5, 6, 7, 8, 11], &[0, 1, 2, 3, 4, 5, 6, 7, 8, 11, 12]];
+/// The answers that document 01 has for each call beside DONE and the refusals of the bytes, which all have.
+const OWN: [&[u32]; 3] = [&[ROOM_TOO_SMALL, RATION_USED_UP], &[NOT_15_NUMBERS], &[NOT_15_NUMBERS, NO_ASSIGNMENT]];
 
-const FURTHEST_NUMBER: i32 = 15_000_015;
+/// The answers that document 01 has for a call.
+fn possible(call: usize) -> impl Iterator<Item = usize> {
+    let all = [DONE].into_iter().chain(REFUSALS_OF_READING).chain(OWN[call].iter().copied());
+    all.map(|answer| answer as usize)
+}
+
+/// "each from -15,000,015 to 15,000,015": a chain of fifteen steps, each one more than a bound.
+const FURTHEST_NUMBER: Whole = NUMBERS as Whole * (HIGHEST_BOUND as Whole + 1);
 
 pub struct Tally {
     pub inputs: u64,
-    pub answers: [[u64; 13]; 3],
-    pub places: [[BTreeSet<u64>; 13]; 3],
+    pub answers: [[u64; ANSWERS]; 3],
+    pub places: [[BTreeSet<u64>; ANSWERS]; 3],
     pub differed: u64,
-    /// How many of the inputs were trees of 0 to 24 ends, and of 0 to 23 connectives one in another.
-    pub by_ends: [u64; 25],
-    pub by_depth: [u64; 24],
+    /// How many of the inputs were trees of 0 ends and more, and of 0 connectives one in another and more.
+    pub by_ends: [u64; ENDS + 1],
+    pub by_depth: [u64; ENDS],
     pub most_questions: u32,
 }
 
@@ -39,17 +46,17 @@ pub fn hex(bytes: &[u8]) -> String {
 /// An assignment lent to judge.
 struct Assignment {
     flags: u32,
-    numbers: Vec<i32>,
+    numbers: Vec<Whole>,
 }
 
 /// What the C boundary is to return and report for an answer of the plain implementation.
-fn trim_expected(expected: &Result<Swept, Refusal>) -> (u32, [u64; 3]) {
+fn trim_expected(expected: &Result<Swept, Refusal>) -> (u32, [u64; 4]) {
     match expected {
         Ok(swept) => {
             let answer = if swept.finished { DONE } else { RATION_USED_UP };
-            (answer, [0, u64::from(swept.questions), swept.ends as u64])
+            (answer, [0, u64::from(swept.questions), swept.ends as u64, swept.bytes.len() as u64])
         }
-        Err(refusal) => (refusal.answer, [refusal.place as u64, 0, 0]),
+        Err(refusal) => (refusal.answer, [refusal.place as u64, 0, 0, 0]),
     }
 }
 
@@ -64,11 +71,11 @@ impl Tally {
     pub fn new() -> Tally {
         Tally {
             inputs: 0,
-            answers: [[0; 13]; 3],
+            answers: [[0; ANSWERS]; 3],
             places: Default::default(),
             differed: 0,
-            by_ends: [0; 25],
-            by_depth: [0; 24],
+            by_ends: [0; ENDS + 1],
+            by_depth: [0; ENDS],
             most_questions: 0,
         }
     }
@@ -89,7 +96,7 @@ impl Tally {
     }
 
     pub fn trim(&mut self, dice: &mut Dice, bytes: &[u8], ration: u32, room: usize, expected: &Result<Swept, Refusal>) {
-        let (mut tree, mut out, mut report) = (Lent::holding(dice, bytes), Lent::noise(dice, room), Lent::noise(dice, 3));
+        let (mut tree, mut out, mut report) = (Lent::holding(dice, bytes), Lent::noise(dice, room), Lent::noise(dice, 4));
         let answer = library::trim(&mut tree, ration, &mut out, &mut report);
         let wanted = trim_expected(expected);
         let result = expected.as_ref().map_or(&[][..], |swept| &swept.bytes);
@@ -124,7 +131,7 @@ impl Tally {
     }
 
     /// "Which satisfying assignment it shows is free": the one shown must satisfy, and lie in the range.
-    fn find(&mut self, dice: &mut Dice, bytes: &[u8], buffer: usize, expected: &Result<(u32, [i32; 15]), Refusal>) {
+    fn find(&mut self, dice: &mut Dice, bytes: &[u8], buffer: usize, expected: &Result<(u32, [Whole; NUMBERS]), Refusal>) {
         let (mut tree, mut numbers, mut report) = (Lent::holding(dice, bytes), Lent::noise(dice, buffer), Lent::noise(dice, 2));
         let answer = library::find(&mut tree, &mut numbers, &mut report);
         let said = report.contents();
@@ -159,24 +166,24 @@ impl Tally {
             let ration = ration_beside(dice, needed);
             self.trim_in_a_room(dice, bytes, ration, document::swept(bytes, ration));
         }
-        let found = document::find(bytes, 15);
+        let found = document::find(bytes, NUMBERS);
         let given = assignment(dice, &found);
         self.judge(dice, bytes, &given);
         let buffer = buffer(dice);
-        let expected = if buffer == 15 { found } else { document::find(bytes, buffer) };
+        let expected = if buffer == NUMBERS { found } else { document::find(bytes, buffer) };
         self.find(dice, bytes, buffer, &expected);
     }
 
     /// The answers that document 01 has and the library never gave.
     pub fn never_seen(&self) -> Vec<String> {
-        let of_call = |call: usize| POSSIBLE[call].iter().map(move |answer| (call, *answer));
+        let of_call = |call: usize| possible(call).map(move |answer| (call, answer));
         let unseen = (0..3).flat_map(of_call).filter(|(call, answer)| self.answers[*call][*answer] == 0);
         unseen.map(|(call, answer)| format!("{} {answer}", CALLS[call])).collect()
     }
 }
 
 /// Whether what find wrote satisfies the tree and lies in the range.
-fn shows(bytes: &[u8], flags: u64, numbers: &[i32]) -> bool {
+fn shows(bytes: &[u8], flags: u64, numbers: &[Whole]) -> bool {
     let in_range = numbers.iter().all(|number| (-FURTHEST_NUMBER..=FURTHEST_NUMBER).contains(number));
     u32::try_from(flags).is_ok_and(|flags| in_range && document::judge(bytes, flags, numbers) == Ok(true))
 }
@@ -189,38 +196,39 @@ fn ration_beside(dice: &mut Dice, needed: u32) -> u32 {
 
 fn room_beside(dice: &mut Dice, needed: usize) -> usize {
     let larger = dice.below(400);
-    dice.of(&[0, needed.saturating_sub(1), needed, needed, needed + 1, 190, 190, larger])
+    dice.of(&[0, needed.saturating_sub(1), needed, needed, needed + 1, LONGEST, LONGEST, larger])
 }
 
 fn buffer(dice: &mut Dice) -> usize {
     let any = dice.below(40);
     if dice.percent(85) {
-        15
+        NUMBERS
     } else {
-        dice.of(&[0, 14, 16, 1, any])
+        dice.of(&[0, NUMBERS - 1, NUMBERS + 1, 1, any])
     }
 }
 
-fn number(dice: &mut Dice, style: usize) -> i32 {
+fn number(dice: &mut Dice, style: usize) -> Whole {
+    const BOUND: Whole = HIGHEST_BOUND as Whole;
     match style {
-        0 => dice.between(-3, 3) as i32,
-        1 => dice.between(-1_000_002, 1_000_002) as i32,
-        2 => dice.of(&[i32::MIN, i32::MIN + 1, -1_000_001, -1_000_000, -1, 0, 1, 1_000_000, 1_000_001, i32::MAX - 1, i32::MAX]),
-        _ => dice.next() as i32,
+        0 => dice.between(-3, 3) as Whole,
+        1 => dice.between(-HIGHEST_BOUND - 2, HIGHEST_BOUND + 2) as Whole,
+        2 => dice.of(&[Whole::MIN, Whole::MIN + 1, -BOUND - 1, -BOUND, -1, 0, 1, BOUND, BOUND + 1, Whole::MAX - 1, Whole::MAX]),
+        _ => dice.next() as Whole,
     }
 }
 
 /// An assignment for judge: the one the plain search found, that one with a number and a boolean changed, or any.
-fn assignment(dice: &mut Dice, found: &Result<(u32, [i32; 15]), Refusal>) -> Assignment {
+fn assignment(dice: &mut Dice, found: &Result<(u32, [Whole; NUMBERS]), Refusal>) -> Assignment {
     let style = dice.below(4);
-    let any = Assignment { flags: dice.next() as u32, numbers: (0..15).map(|_| number(dice, style)).collect() };
+    let any = Assignment { flags: dice.next() as u32, numbers: (0..NUMBERS).map(|_| number(dice, style)).collect() };
     let mut given = match found {
         Ok((flags, numbers)) if dice.percent(60) => Assignment { flags: *flags, numbers: numbers.to_vec() },
         _ => any,
     };
     if dice.percent(50) {
-        given.flags ^= 1 << dice.below(32);
-        let beside = &mut given.numbers[dice.below(15)];
+        given.flags ^= 1 << dice.below(HIGHEST_BOOLEAN as usize + 1);
+        let beside = &mut given.numbers[dice.below(NUMBERS)];
         *beside = beside.wrapping_add(dice.of(&[-1, 1]));
     }
     given.numbers.resize(buffer(dice), 0);

@@ -17,11 +17,30 @@ pub const RATION_USED_UP: u32 = 10;
 pub const NOT_15_NUMBERS: u32 = 11;
 pub const NO_ASSIGNMENT: u32 = 12;
 
-const ENDS: u64 = 24;
-const HIGHEST_TAG: u32 = 7;
-const HIGHEST_BOOLEAN: u32 = 31;
-const HIGHEST_NUMBER: u32 = 15;
-const HIGHEST_WRITTEN_BOUND: u32 = 2_000_000;
+pub const ANSWERS: usize = NO_ASSIGNMENT as usize + 1;
+
+/// The answers that refuse the bytes themselves, which every call has.
+pub const REFUSALS_OF_READING: [u32; 8] =
+    [BYTES_END, NUMBER_FORM, TAG_TOO_HIGH, FEW_CHILDREN, NAME_TOO_HIGH, BOUND_TOO_HIGH, TOO_MANY_ENDS, BYTES_FOLLOW];
+
+pub const ENDS: usize = 24;
+pub const HIGHEST_TAG: u32 = 7;
+pub const HIGHEST_BOOLEAN: u32 = 31;
+pub const HIGHEST_NUMBER: u32 = 15;
+pub const HIGHEST_BOUND: i64 = 1_000_000;
+pub const HIGHEST_WRITTEN_BOUND: u32 = 2 * HIGHEST_BOUND as u32;
+
+/// The numbers of an assignment: number 0 is always 0, and not among them.
+pub const NUMBERS: usize = HIGHEST_NUMBER as usize;
+
+/// "The longest tree has 190 bytes."
+pub const LONGEST: usize = 190;
+
+/// A number of an assignment.
+pub type Whole = i32;
+
+/// The values of all numbers, number 0 first; a difference of two is the true one.
+pub type Values = [i64; NUMBERS + 1];
 
 #[derive(Clone, Debug, PartialEq)]
 pub enum Tree {
@@ -66,8 +85,8 @@ struct Open {
 struct Reader<'a> {
     bytes: &'a [u8],
     at: usize,
-    ends_read: u64,
-    ends_owed: u64,
+    ends_read: usize,
+    ends_owed: usize,
 }
 
 impl Reader<'_> {
@@ -105,11 +124,12 @@ impl Reader<'_> {
         if count < 2 {
             return refuse(FEW_CHILDREN, place);
         }
-        self.ends_owed += u64::from(count) - 1;
+        let count = count as usize;
+        self.ends_owed += count - 1;
         if self.ends_read + self.ends_owed > ENDS {
             return refuse(TOO_MANY_ENDS, tag_place);
         }
-        Ok(Open { is_and, children: Vec::new(), count: count as usize })
+        Ok(Open { is_and, children: Vec::new(), count })
     }
 
     fn boolean(&mut self, stated: bool) -> Result<Tree, Refusal> {
@@ -210,7 +230,7 @@ fn write(tree: &Tree, out: &mut Vec<u8>) {
 
 // Judging.
 
-pub fn meaning(tree: &Tree, flags: u32, value: &[i64; 16]) -> bool {
+pub fn meaning(tree: &Tree, flags: u32, value: &Values) -> bool {
     match tree {
         Constant(constant) => *constant,
         Boolean { name, stated } => (flags >> name & 1 == 1) == *stated,
@@ -220,14 +240,14 @@ pub fn meaning(tree: &Tree, flags: u32, value: &[i64; 16]) -> bool {
     }
 }
 
-pub fn values(numbers: &[i32]) -> [i64; 16] {
-    let mut value = [0; 16];
+pub fn values(numbers: &[Whole]) -> Values {
+    let mut value = [0; NUMBERS + 1];
     value[1..].iter_mut().zip(numbers).for_each(|(slot, number)| *slot = i64::from(*number));
     value
 }
 
-pub fn judge(bytes: &[u8], flags: u32, numbers: &[i32]) -> Result<bool, Refusal> {
-    if numbers.len() != 15 {
+pub fn judge(bytes: &[u8], flags: u32, numbers: &[Whole]) -> Result<bool, Refusal> {
+    if numbers.len() != NUMBERS {
         return refuse(NOT_15_NUMBERS, 0);
     }
     Ok(meaning(&read(bytes)?, flags, &values(numbers)))
@@ -335,7 +355,7 @@ pub fn with_end_as(tree: &Tree, path: &[usize], constant: bool) -> Tree {
 /// The ends taken as true on one branch of the case split.
 #[derive(Clone)]
 struct Branch {
-    booleans: [Option<bool>; 32],
+    booleans: [Option<bool>; HIGHEST_BOOLEAN as usize + 1],
     /// (x, y, c) for x - y <= c.
     differences: Vec<(usize, usize, i64)>,
 }
@@ -360,9 +380,9 @@ impl Branch {
 
     /// Sixteen values that meet every difference, or none if a closed chain sums below zero. From sixteen zeros every simple chain is
     /// walked after 15 rounds, so a change in round 16 comes of a closed chain below zero.
-    fn values(&self) -> Option<[i64; 16]> {
-        let mut value = [0; 16];
-        for _round in 1..=16 {
+    fn values(&self) -> Option<Values> {
+        let mut value = [0; NUMBERS + 1];
+        for _round in 0..value.len() {
             if !self.lower(&mut value) {
                 return Some(value);
             }
@@ -371,7 +391,7 @@ impl Branch {
     }
 
     /// One round: lowers each x that is above y + c; whether any was.
-    fn lower(&self, value: &mut [i64; 16]) -> bool {
+    fn lower(&self, value: &mut Values) -> bool {
         let mut lowered = false;
         for (x, y, c) in &self.differences {
             let most = value[*y] + c;
@@ -408,19 +428,19 @@ fn split<'a>(mut branch: Branch, tree: &'a Tree, mut ors: Vec<&'a [Tree]>) -> Op
 }
 
 fn satisfying(tree: &Tree) -> Option<Branch> {
-    split(Branch { booleans: [None; 32], differences: Vec::new() }, tree, Vec::new())
+    split(Branch { booleans: [None; HIGHEST_BOOLEAN as usize + 1], differences: Vec::new() }, tree, Vec::new())
 }
 
 /// Booleans as bits, and the numbers 1 to 15 measured from number 0.
-fn assignment(branch: &Branch) -> (u32, [i32; 15]) {
+fn assignment(branch: &Branch) -> (u32, [Whole; NUMBERS]) {
     let flags = branch.booleans.iter().rev().fold(0, |flags, boolean| flags << 1 | u32::from(*boolean == Some(true)));
     let value = branch.values().expect("a branch that was kept has values");
-    (flags, std::array::from_fn(|index| (value[index + 1] - value[0]) as i32))
+    (flags, std::array::from_fn(|index| (value[index + 1] - value[0]) as Whole))
 }
 
 /// One satisfying assignment for a buffer of that many numbers.
-pub fn find(bytes: &[u8], buffer: usize) -> Result<(u32, [i32; 15]), Refusal> {
-    if buffer != 15 {
+pub fn find(bytes: &[u8], buffer: usize) -> Result<(u32, [Whole; NUMBERS]), Refusal> {
+    if buffer != NUMBERS {
         return refuse(NOT_15_NUMBERS, 0);
     }
     match satisfying(&read(bytes)?) {

@@ -1,7 +1,7 @@
 //! The seeded inputs: trees of every shape, the same damaged, and strings over tags and edge bytes.
 
 use crate::dice::Dice;
-use rules::document::write_number;
+use rules::document::{write_number, ENDS, HIGHEST_BOOLEAN, HIGHEST_BOUND, HIGHEST_NUMBER, HIGHEST_TAG, HIGHEST_WRITTEN_BOUND};
 
 /// Bytes at and beside the edges of tags, counts, names and number forms.
 pub const EDGE_BYTES: [u8; 20] =
@@ -79,11 +79,11 @@ struct Theme {
     made: Vec<(usize, Vec<Part>)>,
 }
 
-fn names(dice: &mut Dice, highest: i64) -> Vec<u32> {
-    let many = if dice.percent(15) { highest + 1 } else { dice.between(1, 5) };
-    let mut names: Vec<u32> = (0..many).map(|_| dice.between(0, highest) as u32).collect();
+fn names(dice: &mut Dice, highest: u32) -> Vec<u32> {
+    let many = if dice.percent(15) { i64::from(highest) + 1 } else { dice.between(1, 5) };
+    let mut names: Vec<u32> = (0..many).map(|_| dice.between(0, highest.into()) as u32).collect();
     if dice.percent(20) {
-        names.push(highest as u32);
+        names.push(highest);
     }
     if dice.percent(60) {
         names.push(0);
@@ -95,8 +95,8 @@ fn theme(dice: &mut Dice) -> Theme {
     Theme {
         shape: dice.of(&[Shape::Wide, Shape::Deep, Shape::Halves, Shape::Groups, Shape::Any, Shape::Any]),
         bounds: dice.of(&[Bounds::Near, Bounds::Near, Bounds::Small, Bounds::Extreme, Bounds::Any]),
-        booleans: names(dice, 31),
-        numbers: names(dice, 15),
+        booleans: names(dice, HIGHEST_BOOLEAN),
+        numbers: names(dice, HIGHEST_NUMBER),
         percent_booleans: dice.of(&[0, 10, 30, 50, 100]),
         percent_constants: dice.of(&[0, 0, 0, 3, 10, 40]),
         percent_repeats: dice.of(&[0, 0, 10, 30, 60]),
@@ -111,13 +111,14 @@ fn written_bound(c: i64) -> u32 {
     (if c >= 0 { 2 * c } else { -2 * c - 1 }) as u32
 }
 
-/// From -1,000,000 to 1,000,000.
+/// A bound within the limits.
 fn bound(dice: &mut Dice, bounds: Bounds) -> i64 {
+    const HIGHEST: i64 = HIGHEST_BOUND;
     match bounds {
         Bounds::Near => dice.between(-2, 2),
         Bounds::Small => dice.between(-70, 70),
-        Bounds::Extreme => dice.of(&[-1_000_000, -999_999, -999_998, -1, 0, 1, 999_998, 999_999, 1_000_000]),
-        Bounds::Any => dice.between(-1_000_000, 1_000_000),
+        Bounds::Extreme => dice.of(&[-HIGHEST, 1 - HIGHEST, 2 - HIGHEST, -1, 0, 1, HIGHEST - 2, HIGHEST - 1, HIGHEST]),
+        Bounds::Any => dice.between(-HIGHEST, HIGHEST),
     }
 }
 
@@ -143,7 +144,7 @@ fn like(dice: &mut Dice, end: &[Part]) -> Vec<Part> {
     match dice.below(4) {
         1 => near[0].value ^= 1,
         2 if near.len() == 4 => near.swap(1, 2),
-        3 if near.len() == 4 => near[3].value = (near[3].value + dice.of(&[1, 2, 3, 4])).min(2_000_000),
+        3 if near.len() == 4 => near[3].value = (near[3].value + dice.of(&[1, 2, 3, 4])).min(HIGHEST_WRITTEN_BOUND),
         _ => {}
     }
     near
@@ -222,7 +223,7 @@ fn tree(dice: &mut Dice, ends: usize) -> Vec<Part> {
 
 /// x - y <= most, written as itself or as the negation of y - x <= -most - 1.
 fn at_most(dice: &mut Dice, x: u32, y: u32, most: i64) -> Vec<Part> {
-    if most < -1_000_000 || most < 1_000_000 && dice.percent(30) {
+    if most < -HIGHEST_BOUND || most < HIGHEST_BOUND && dice.percent(30) {
         difference(7, y, x, -most - 1)
     } else {
         difference(6, x, y, most)
@@ -233,9 +234,9 @@ fn shuffle<T>(dice: &mut Dice, things: &mut [T]) {
     (1..things.len()).for_each(|index| things.swap(index, dice.below(index + 1)));
 }
 
-/// Numbers 0 to 15 in any order.
+/// All numbers in any order.
 fn shuffled_numbers(dice: &mut Dice) -> Vec<u32> {
-    let mut names: Vec<u32> = (0..16).collect();
+    let mut names: Vec<u32> = (0..=HIGHEST_NUMBER).collect();
     shuffle(dice, &mut names);
     names
 }
@@ -254,16 +255,16 @@ fn in_some_order(dice: &mut Dice, mut ends: Vec<Vec<Part>>) -> Vec<Vec<Part>> {
 /// zero) or from its first to its last (which the others imply, or nearly).
 fn chain(dice: &mut Dice) -> Vec<Vec<Part>> {
     let mut names = shuffled_numbers(dice);
-    names.truncate(if dice.percent(40) { 16 } else { dice.between(2, 16) as usize });
+    names.truncate(if dice.percent(40) { names.len() } else { dice.between(2, names.len() as i64) as usize });
     let (first, last) = (names[0], names[names.len() - 1]);
     let bounds = dice.of(&[Bounds::Near, Bounds::Small, Bounds::Extreme, Bounds::Any]);
-    let all_one = dice.of(&[None, None, None, Some(-1_000_001), Some(-1_000_000), Some(1_000_000)]);
+    let all_one = dice.of(&[None, None, None, Some(-HIGHEST_BOUND - 1), Some(-HIGHEST_BOUND), Some(HIGHEST_BOUND)]);
     let steps: Vec<i64> = names[1..].iter().map(|_| all_one.unwrap_or_else(|| bound(dice, bounds))).collect();
     let mut ends: Vec<Vec<Part>> = names.windows(2).zip(&steps).map(|(pair, step)| at_most(dice, pair[0], pair[1], *step)).collect();
     let sum: i64 = steps.iter().sum();
     let beside = dice.between(-2, 1);
     let (x, y, most) = if dice.percent(60) { (last, first, beside - sum) } else { (first, last, beside + sum) };
-    if (-1_000_001..=1_000_000).contains(&most) && dice.percent(80) {
+    if (-HIGHEST_BOUND - 1..=HIGHEST_BOUND).contains(&most) && dice.percent(80) {
         ends.insert(dice.below(ends.len()), at_most(dice, x, y, most));
     }
     in_some_order(dice, ends)
@@ -274,7 +275,7 @@ fn weakened(dice: &mut Dice) -> Vec<Vec<Part>> {
     let many = dice.between(1, 14) as usize;
     let names = shuffled_numbers(dice);
     let strict: Vec<(u32, u32, i64)> = (0..many).map(|index| (names[index], names[index + 1], dice.between(-9, 9))).collect();
-    let weaker = (0..dice.below(23 - many)).map(|_| {
+    let weaker = (0..dice.below(ENDS - 1 - many)).map(|_| {
         let (x, y, most) = dice.of(&strict);
         let more = dice.between(0, 3);
         at_most(dice, x, y, most + more)
@@ -297,7 +298,7 @@ fn planned(dice: &mut Dice) -> Vec<Part> {
 
 /// How many ends a tree gets: any number, the largest and the small ones more often.
 fn size(dice: &mut Dice) -> usize {
-    let highest = dice.of(&[4, 6, 9, 12, 18, 24, 24, 24]);
+    let highest = dice.of(&[4, 6, 9, 12, 18, ENDS, ENDS, ENDS]);
     if dice.percent(20) {
         highest
     } else {
@@ -307,12 +308,14 @@ fn size(dice: &mut Dice) -> usize {
 
 /// A value that the kind of number refuses, or the first beside it that is taken.
 fn out_of_range(dice: &mut Dice, kind: Kind) -> u32 {
+    const MOST: u32 = ENDS as u32;
+    const WRITTEN: u32 = HIGHEST_WRITTEN_BOUND;
     match kind {
-        Kind::Tag => dice.of(&[7, 8, 9, 127, 128, 16_383, 16_384, 2_097_151]),
-        Kind::Count => dice.of(&[0, 1, 2, 23, 24, 25, 127, 128, 16_384, 2_097_151]),
-        Kind::Boolean => dice.of(&[31, 32, 33, 127, 128, 16_384, 2_097_151]),
-        Kind::Number => dice.of(&[15, 16, 17, 31, 127, 128, 16_384, 2_097_151]),
-        Kind::Bound => dice.of(&[1_999_999, 2_000_000, 2_000_001, 2_000_002, 2_097_151]),
+        Kind::Tag => dice.of(&[HIGHEST_TAG, HIGHEST_TAG + 1, HIGHEST_TAG + 2, 127, 128, 16_383, 16_384, 2_097_151]),
+        Kind::Count => dice.of(&[0, 1, 2, MOST - 1, MOST, MOST + 1, 127, 128, 16_384, 2_097_151]),
+        Kind::Boolean => dice.of(&[HIGHEST_BOOLEAN, HIGHEST_BOOLEAN + 1, HIGHEST_BOOLEAN + 2, 127, 128, 16_384, 2_097_151]),
+        Kind::Number => dice.of(&[HIGHEST_NUMBER, HIGHEST_NUMBER + 1, HIGHEST_NUMBER + 2, 31, 127, 128, 16_384, 2_097_151]),
+        Kind::Bound => dice.of(&[WRITTEN - 1, WRITTEN, WRITTEN + 1, WRITTEN + 2, 2_097_151]),
     }
 }
 
@@ -366,7 +369,7 @@ fn followed(dice: &mut Dice, mut bytes: Vec<u8>) -> Vec<u8> {
 }
 
 fn damaged(dice: &mut Dice) -> Vec<u8> {
-    let ends = dice.between(1, 24) as usize;
+    let ends = dice.between(1, ENDS as i64) as usize;
     let parts = tree(dice, ends);
     match dice.below(8) {
         0 => {
@@ -387,7 +390,7 @@ fn damaged(dice: &mut Dice) -> Vec<u8> {
 /// One seeded input.
 pub fn input(dice: &mut Dice) -> Vec<u8> {
     let ends = size(dice);
-    let too_many = dice.between(24, 30) as usize;
+    let too_many = dice.between(ENDS as i64, ENDS as i64 + 6) as usize;
     match dice.below(100) {
         0..=44 => written(&tree(dice, ends)),
         45..=54 => written(&planned(dice)),

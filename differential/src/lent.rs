@@ -2,6 +2,7 @@
 //! outside is seen and a byte read outside changes the outcome sooner or later.
 
 use crate::dice::Dice;
+use rules::document::Whole;
 
 const GUARD: usize = 64;
 
@@ -23,9 +24,9 @@ impl Noise for u8 {
     }
 }
 
-impl Noise for i32 {
-    fn of(bits: u64) -> i32 {
-        bits as i32
+impl Noise for Whole {
+    fn of(bits: u64) -> Whole {
+        bits as Whole
     }
 }
 

@@ -10,7 +10,7 @@ mod worked;
 
 use compare::{Tally, CALLS};
 use dice::Dice;
-use rules::document;
+use rules::document::{self, ANSWERS, ENDS};
 use std::process::ExitCode;
 use std::time::Instant;
 
@@ -42,12 +42,12 @@ fn short_strings(tally: &mut Tally, dice: &mut Dice) {
 fn print(tally: &Tally) {
     let heads = CALLS.map(|call| format!("{call:>10} {:>7}", "places"));
     println!("answer {}", heads.join(" "));
-    for answer in 0..=12 {
+    for answer in 0..ANSWERS {
         let columns = [0, 1, 2].map(|call| format!("{:>10} {:>7}", tally.answers[call][answer], tally.places[call][answer].len()));
         println!("{answer:>6} {}", columns.join(" "));
     }
-    println!("trees of 1 to 24 ends: {:?}", &tally.by_ends[1..]);
-    println!("trees of 0 to 23 connectives one in another: {:?}", tally.by_depth);
+    println!("trees of 1 to {ENDS} ends: {:?}", &tally.by_ends[1..]);
+    println!("trees of 0 to {} connectives one in another: {:?}", ENDS - 1, tally.by_depth);
     println!("most questions asked of one tree: {}", tally.most_questions);
     let calls: u64 = tally.answers.iter().flatten().sum();
     println!("calls: {calls}; differed: {}", tally.differed);

@@ -1,12 +1,13 @@
-//! Lines typed as text, read plainly from left to right: a condition in hex, then parts after a `/` each. The rules are those that the
-//! programs `worked`, `judge` and `find` read by; none of their code is used.
+//! Lines typed as text, read plainly from left to right: a verb, a condition in hex, then parts after a `/` each. The rules are those that
+//! the program `lines` reads by; none of its code is used.
+
+use crate::document::{Whole, NUMBERS};
 
 /// More bytes of a condition than these are not understood.
 const MOST_BYTES: usize = 256;
 
-/// The numbers that an assignment has. A line may have one more, to show what is answered to too many.
-const FIT_NUMBERS: usize = 15;
-const MOST_NUMBERS: usize = FIT_NUMBERS + 1;
+/// A line may have one number more than an assignment, to show what is answered to too many.
+const MOST_NUMBERS: usize = NUMBERS + 1;
 
 /// The place in its line, from 0, of the first character that cannot be continued; the line's length if more had to follow.
 #[derive(Debug)]
@@ -62,6 +63,13 @@ impl Line<'_> {
         Ok(value as u8)
     }
 
+    /// The line's first word, which begins it; nothing if a space does.
+    pub fn verb(&mut self) -> String {
+        let length = self.text.iter().position(|character| *character == b' ').unwrap_or(self.text.len());
+        self.at = length;
+        String::from_utf8_lossy(&self.text[..length]).into_owned()
+    }
+
     /// The condition's bytes, up to the line's end or a `/`. Spaces may stand between bytes, but not inside one.
     pub fn tree(&mut self) -> Result<Vec<u8>, Stuck> {
         let mut bytes = Vec::new();
@@ -108,12 +116,12 @@ impl Line<'_> {
         Ok(value)
     }
 
-    fn number(&mut self) -> Result<i32, Stuck> {
+    fn number(&mut self) -> Result<Whole, Stuck> {
         if self.next() == Some(b'-') {
             self.at += 1;
-            return Ok(-self.decimal(1 << 31)? as i32);
+            return Ok(-self.decimal(1 << 31)? as Whole);
         }
-        Ok(self.decimal((1 << 31) - 1)? as i32)
+        Ok(self.decimal((1 << 31) - 1)? as Whole)
     }
 
     /// The word `..`, which is the line's last.
@@ -127,10 +135,11 @@ impl Line<'_> {
         self.end()
     }
 
-    /// A `/` and signed numbers, up to the line's end; zeros up to fifteen in place of a last `..`, and for a line that has ended before.
-    pub fn numbers(&mut self) -> Result<Vec<i32>, Stuck> {
+    /// A `/` and signed numbers, up to the line's end; zeros up to as many as an assignment has in place of a last `..`, and for a line
+    /// that has ended before.
+    pub fn numbers(&mut self) -> Result<Vec<Whole>, Stuck> {
         if self.next().is_none() {
-            return Ok(vec![0; FIT_NUMBERS]);
+            return Ok(vec![0; NUMBERS]);
         }
         self.at += 1;
         self.skip_spaces();
@@ -138,7 +147,7 @@ impl Line<'_> {
         while let Some(character) = self.next() {
             if character == b'.' {
                 self.filling()?;
-                numbers.resize(numbers.len().max(FIT_NUMBERS), 0);
+                numbers.resize(numbers.len().max(NUMBERS), 0);
                 return Ok(numbers);
             }
             if numbers.len() == MOST_NUMBERS {

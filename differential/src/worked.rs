@@ -3,7 +3,7 @@
 use crate::compare::hex;
 use crate::dice::Dice;
 use crate::generator;
-use rules::document::{self, Path, Refusal, Tree};
+use rules::document::{self, Path, Refusal, Tree, NUMBERS};
 
 /// Hex, ration, questions, whether finished, result, of the worked trees 1 to 12 in order.
 const TREES: [(&str, u32, u32, bool, &str); 15] = [
@@ -97,7 +97,7 @@ fn small_conditions(many: u32) {
         let swept = document::swept(&bytes, u32::MAX).expect("a small condition is read");
         let (questions, result) = swept_by_assignments(document::fold(tree.clone()));
         assert_eq!((swept.questions, document::read(&swept.bytes)), (questions, Ok(result)), "trim {}", hex(&bytes));
-        let found = document::find(&bytes, 15);
+        let found = document::find(&bytes, NUMBERS);
         assert_eq!(found.is_ok(), truth(&tree).contains(&true), "find {}", hex(&bytes));
         let holds = found.map(|(flags, numbers)| document::judge(&bytes, flags, &numbers));
         assert!(holds.is_err() || holds == Ok(Ok(true)), "found {}", hex(&bytes));

@@ -4,12 +4,14 @@
 //! design could be in both. Each call answers every input with document 01's number and place.
 
 pub mod folding;
+pub mod limits;
 pub mod reading;
 pub mod search;
 pub mod sweep;
 pub mod tree;
 pub mod writing;
 
+use limits::{Whole, FINISHED, LONG, NOTHING, NUMBERS, STOPPED, UNFIT};
 use tree::Assignment;
 
 /// "place": where in the bytes, or for answer 9 how many are needed; 0 where document 01's table has 0.
@@ -33,39 +35,41 @@ pub struct Trimmed {
     pub place: u64,
     pub questions: u32,
     pub ends: u32,
+    /// How many bytes were written.
+    pub bytes: u64,
 }
 
 /// The 15 numbers of names 1 to 15, behind number 0, which is always 0; none if there are not 15 ("11 comes first").
-fn numbers_of(given: &[i32]) -> Option<[i32; 16]> {
-    let given: [i32; 15] = given.try_into().ok()?;
-    let mut numbers = [0; 16];
+fn numbers_of(given: &[Whole]) -> Option<[Whole; NUMBERS + 1]> {
+    let given: [Whole; NUMBERS] = given.try_into().ok()?;
+    let mut numbers = [0; NUMBERS + 1];
     numbers[1..].copy_from_slice(&given);
     Some(numbers)
 }
 
 /// Whether the condition is true under the assignment given.
-pub fn judge(bytes: &[u8], bits: u32, numbers: &[i32]) -> Judged {
+pub fn judge(bytes: &[u8], bits: u32, numbers: &[Whole]) -> Judged {
     let Some(numbers) = numbers_of(numbers) else {
-        return Judged { answer: 11, place: 0, value: false };
+        return Judged { answer: UNFIT, place: 0, value: false };
     };
     match reading::read(bytes) {
         Err(why) => Judged { answer: why.answer, place: why.place as u64, value: false },
-        Ok(nodes) => Judged { answer: 0, place: 0, value: tree::holds(&nodes, 0, &Assignment { bits, numbers }) },
+        Ok(nodes) => Judged { answer: FINISHED, place: 0, value: tree::holds(&nodes, 0, &Assignment { bits, numbers }) },
     }
 }
 
 /// An assignment that makes the condition true: its numbers are written, its bits returned. All other answers write nothing.
-pub fn find(bytes: &[u8], numbers: &mut [i32]) -> Found {
-    if numbers.len() != 15 {
-        return Found { answer: 11, place: 0, bits: 0 };
+pub fn find(bytes: &[u8], numbers: &mut [Whole]) -> Found {
+    if numbers.len() != NUMBERS {
+        return Found { answer: UNFIT, place: 0, bits: 0 };
     }
     match reading::read(bytes) {
         Err(why) => Found { answer: why.answer, place: why.place as u64, bits: 0 },
         Ok(nodes) => match search::satisfy(&nodes, &[(0, true)]) {
-            None => Found { answer: 12, place: 0, bits: 0 },
+            None => Found { answer: NOTHING, place: 0, bits: 0 },
             Some(found) => {
                 numbers.copy_from_slice(&found.numbers[1..]);
-                Found { answer: 0, place: 0, bits: found.bits }
+                Found { answer: FINISHED, place: 0, bits: found.bits }
             }
         },
     }
@@ -73,17 +77,18 @@ pub fn find(bytes: &[u8], numbers: &mut [i32]) -> Found {
 
 /// Trims the condition with at most `ration` questions. Answers 0 and 10 write the result from the output's start; no other writes.
 pub fn trim(bytes: &[u8], ration: u32, out: &mut [u8]) -> Trimmed {
-    let refused = |answer, place| Trimmed { answer, place, questions: 0, ends: 0 };
+    let refused = |answer, place| Trimmed { answer, place, questions: 0, ends: 0, bytes: 0 };
     let nodes = match reading::read(bytes) {
         Err(why) => return refused(why.answer, why.place as u64),
         Ok(nodes) => nodes,
     };
     let swept = sweep::sweep(&nodes, ration);
     let result = writing::write(&swept.nodes);
+    let bytes = result.len() as u64;
     if out.len() < result.len() {
-        return refused(9, result.len() as u64);
+        return refused(LONG, bytes);
     }
     out[..result.len()].copy_from_slice(&result);
     let ends = tree::ends(&swept.nodes).count() as u32;
-    Trimmed { answer: if swept.finished { 0 } else { 10 }, place: 0, questions: swept.asked, ends }
+    Trimmed { answer: if swept.finished { FINISHED } else { STOPPED }, place: 0, questions: swept.asked, ends, bytes }
 }

@@ -1,51 +1,55 @@
 //! The search: whether some assignment makes given trees true and others false, and which. Unverified.
 //!
 //! Differences are kept as the table of tightest differences between all sixteen numbers; a guess is made on a copy of it.
+use crate::limits::{Whole, ENDS, LARGEST_BOUND, NODES, NUMBERS};
 use crate::tree::{children, Assignment, Node};
 
 /// A tree by its place, to be made true or (false) false. Made false, an `or` is an `and` of its children made false, and the reverse.
 pub type Claim = (usize, bool);
 
 /// If an assignment over all whole numbers satisfies a tree, one does with numbers this far from 0 at most: fifteen steps of a bound.
-const FAR: i32 = 15 * 1_000_001;
+const FAR: Whole = NUMBERS as Whole * (LARGEST_BOUND + 1);
 
-/// What is settled: entry 16 x + y of the table bounds x - y; booleans settled true and those settled false.
+/// Entries of a row of the table, one for each number, number 0 too.
+const ROW: usize = NUMBERS + 1;
+
+/// What is settled: entry y of row x of the table bounds x - y; booleans settled true and those settled false.
 #[derive(Clone)]
 struct Settled {
-    table: [i32; 256],
+    table: [Whole; ROW * ROW],
     yes: u32,
     no: u32,
     /// Claims that need a guess, and how many there are.
-    waiting: [(u8, bool); 48],
+    waiting: [(u8, bool); NODES],
     many: usize,
 }
 
 impl Settled {
     /// Nothing but that the numbers are in range.
     fn nothing() -> Settled {
-        let mut table = [2 * FAR; 256];
-        for i in 0..16 {
+        let mut table = [2 * FAR; ROW * ROW];
+        for i in 0..ROW {
             table[i] = FAR;
-            table[16 * i] = FAR;
+            table[ROW * i] = FAR;
         }
-        for i in 0..16 {
-            table[17 * i] = 0;
+        for i in 0..ROW {
+            table[ROW * i + i] = 0;
         }
-        Settled { table, yes: 0, no: 0, waiting: [(0, true); 48], many: 0 }
+        Settled { table, yes: 0, no: 0, waiting: [(0, true); NODES], many: 0 }
     }
 
     /// Settles x - y <= c. False if a closed chain would sum below zero.
     #[inline]
-    fn bound(&mut self, x: usize, y: usize, c: i32) -> bool {
+    fn bound(&mut self, x: usize, y: usize, c: Whole) -> bool {
         let table = &mut self.table;
-        if table[16 * y + x] + c < 0 {
+        if table[ROW * y + x] + c < 0 {
             return false;
         }
-        if table[16 * x + y] <= c {
+        if table[ROW * x + y] <= c {
             return true;
         }
-        let onward: [i32; 16] = table[16 * y..][..16].try_into().unwrap();
-        for row in table.chunks_exact_mut(16) {
+        let onward: [Whole; ROW] = table[ROW * y..][..ROW].try_into().unwrap();
+        for row in table.chunks_exact_mut(ROW) {
             let left = row[x] + c;
             if left < row[y] {
                 for (entry, right) in row.iter_mut().zip(onward) {
@@ -71,10 +75,10 @@ impl Settled {
             }
             Node::Bound(b, x, y, c) => {
                 let (x, y) = (x as usize, y as usize);
-                if self.table[16 * x + y] <= c {
+                if self.table[ROW * x + y] <= c {
                     return Some(b == so);
                 }
-                (self.table[16 * y + x] + c < 0).then_some(b != so)
+                (self.table[ROW * y + x] + c < 0).then_some(b != so)
             }
             Node::Join(..) => None,
         }
@@ -112,7 +116,7 @@ impl Settled {
         while self.many > 0 {
             self.many -= 1;
             let (at, so) = self.waiting[self.many];
-            let mut open = [0u8; 24];
+            let mut open = [0u8; ENDS];
             let mut opens = 0;
             let mut met = false;
             for child in children(nodes, at as usize) {
@@ -147,7 +151,7 @@ impl Settled {
 
     /// The assignment that the table shows once nothing waits; a boolean that is not settled is false.
     fn shown(&self) -> Assignment {
-        Assignment { bits: self.yes, numbers: std::array::from_fn(|x| self.table[16 * x]) }
+        Assignment { bits: self.yes, numbers: std::array::from_fn(|x| self.table[ROW * x]) }
     }
 }
 

@@ -4,6 +4,7 @@
 //! the root, which is whether the end's critical constraint holds there; then a question about the end may be answered "no" without a
 //! search. It counts as asked all the same.
 use crate::folding::fold;
+use crate::limits::{ENDS, NODES};
 use crate::search::{satisfy, Claim};
 use crate::tree::{children, end_holds, ends, Assignment, Node};
 
@@ -15,7 +16,7 @@ pub struct Swept {
 
 /// The critical constraint of the tree at a place: under an `and` all its siblings, under an `or` the negation of each, up to the root.
 pub fn constraint(nodes: &[Node], place: usize) -> Vec<Claim> {
-    let mut claims = Vec::with_capacity(24);
+    let mut claims = Vec::with_capacity(ENDS);
     let mut at = 0;
     while at != place {
         let Node::Join(all, ..) = nodes[at] else { unreachable!("an end has nothing below it") };
@@ -45,13 +46,13 @@ pub fn redundant(nodes: &[Node]) -> usize {
 /// A tree under work, with each node's parent, and the questions already known to be answered "no": bit i is the end at place i.
 struct Work {
     nodes: Vec<Node>,
-    parents: [u8; 48],
+    parents: [u8; NODES],
     noes: [u64; 2],
 }
 
 impl Work {
     fn new(nodes: Vec<Node>) -> Work {
-        let mut parents = [0; 48];
+        let mut parents = [0; NODES];
         for join in 0..nodes.len() {
             if let Node::Join(..) = nodes[join] {
                 children(&nodes, join).for_each(|child| parents[child] = join as u8);
@@ -69,9 +70,9 @@ impl Work {
     /// Marks every question that this assignment answers "no".
     fn learn(&mut self, under: &Assignment) {
         let many = self.nodes.len();
-        let mut values = [false; 48];
+        let mut values = [false; NODES];
         // How many children decide each connective; from the last node backwards children come before their parents.
-        let mut deciding = [0u8; 48];
+        let mut deciding = [0u8; NODES];
         for i in (0..many).rev() {
             values[i] = match self.nodes[i] {
                 Node::Join(all, ..) => (deciding[i] == 0) == all,
@@ -81,7 +82,7 @@ impl Work {
             deciding[parent] += (i > 0 && self.decides(parent, values[i])) as u8;
         }
         // A node turns the root if its parent does and no sibling decides the parent.
-        let mut turns = [true; 48];
+        let mut turns = [true; NODES];
         for i in 0..many {
             let parent = self.parents[i] as usize;
             if i > 0 {

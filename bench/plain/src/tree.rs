@@ -1,4 +1,5 @@
 //! A condition in memory: its nodes in the order they are written, node first, children after it; and what they mean.
+use crate::limits::{Whole, NUMBERS};
 
 #[derive(Clone, Copy, PartialEq, Eq, Debug)]
 pub enum Node {
@@ -7,7 +8,7 @@ pub enum Node {
     /// Boolean p, or (false) not p.
     Flag(bool, u8),
     /// x - y <= c, or (false) its negation.
-    Bound(bool, u8, u8, i32),
+    Bound(bool, u8, u8, Whole),
     /// `and` (true) or `or`: its child count, and how many nodes it takes, itself among them.
     Join(bool, u8, u8),
 }
@@ -46,7 +47,7 @@ pub fn ends(nodes: &[Node]) -> impl Iterator<Item = usize> + '_ {
 #[derive(Clone, Copy, PartialEq, Eq, Debug)]
 pub struct Assignment {
     pub bits: u32,
-    pub numbers: [i32; 16],
+    pub numbers: [Whole; NUMBERS + 1],
 }
 
 /// Whether an end, no connective, is true under this assignment. Two 32-bit numbers may lie farther apart than 32 bits tell.

@@ -1,4 +1,5 @@
 //! Writes a condition's nodes as the bytes of document 01.
+use crate::limits::{Whole, LONGEST};
 use crate::tree::Node;
 
 /// Groups of seven bits, low group first, top bit set on every byte but the last.
@@ -11,7 +12,7 @@ fn put(out: &mut Vec<u8>, mut number: u32) {
 }
 
 /// c as it is written: 0, -1, 1, -2 are 0, 1, 2, 3.
-fn written(c: i32) -> u32 {
+fn written(c: Whole) -> u32 {
     if c >= 0 {
         2 * c as u32
     } else {
@@ -20,7 +21,7 @@ fn written(c: i32) -> u32 {
 }
 
 pub fn write(nodes: &[Node]) -> Vec<u8> {
-    let mut out = Vec::with_capacity(190);
+    let mut out = Vec::with_capacity(LONGEST);
     for &node in nodes {
         match node {
             Node::Plain(so) => put(&mut out, so as u32),

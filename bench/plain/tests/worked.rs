@@ -1,17 +1,18 @@
 //! Document 01's worked trees and refusals through the plain program.
+use plain::limits::{LONGEST, NUMBERS};
 use plain::{find, judge, trim};
 
 fn bytes(hex: &str) -> Vec<u8> {
     hex.split_whitespace().map(|b| u8::from_str_radix(b, 16).unwrap()).collect()
 }
 
-/// Answer, place, questions, ends, and the result in hex.
+/// Answer, place, questions, ends, and the result in hex: as many bytes as were written.
 fn trimmed(hex: &str, ration: u32, room: usize) -> (u32, u64, u32, u32, String) {
     let mut out = vec![0xee; room + 1];
     let t = trim(&bytes(hex), ration, &mut out[..room]);
-    let (_, after) = out.split_at(if matches!(t.answer, 0 | 10) { out.iter().position(|&b| b == 0xee).unwrap() } else { 0 });
+    let (result, after) = out.split_at(t.bytes as usize);
     assert!(after.iter().all(|&b| b == 0xee), "bytes beyond the result stay");
-    let text: Vec<String> = out[..out.len() - after.len()].iter().map(|b| format!("{b:02x}")).collect();
+    let text: Vec<String> = result.iter().map(|b| format!("{b:02x}")).collect();
     (t.answer, t.place, t.questions, t.ends, text.join(" "))
 }
 
@@ -40,14 +41,14 @@ fn worked_trees() {
     for (tree, questions, ends, result) in WORKED {
         let needed = bytes(result).len();
         assert_eq!(trimmed(tree, questions, needed), (0, 0, questions, ends, result.into()), "{tree}");
-        assert_eq!(trimmed(tree, u32::MAX, 190), (0, 0, questions, ends, result.into()), "{tree}");
+        assert_eq!(trimmed(tree, u32::MAX, LONGEST), (0, 0, questions, ends, result.into()), "{tree}");
         if questions > 0 {
-            let stopped = trimmed(tree, questions - 1, 190);
+            let stopped = trimmed(tree, questions - 1, LONGEST);
             assert_eq!((stopped.0, stopped.2), (10, questions - 1), "{tree}");
         }
         assert_eq!(trimmed(tree, questions, needed - 1), (9, needed as u64, 0, 0, "".into()), "{tree}");
     }
-    assert_eq!(trimmed("04 00", 1, 190), (10, 0, 1, 1, "04 00".into()));
+    assert_eq!(trimmed("04 00", 1, LONGEST), (10, 0, 1, 1, "04 00".into()));
 }
 
 #[test]
@@ -68,15 +69,15 @@ fn refusals() {
         ("04 00 00", 8, 2),
     ];
     for (hex, answer, place) in refused {
-        let mut numbers = [7; 15];
-        let (j, f) = (judge(&bytes(hex), 0, &[0; 15]), find(&bytes(hex), &mut numbers));
+        let mut numbers = [7; NUMBERS];
+        let (j, f) = (judge(&bytes(hex), 0, &[0; NUMBERS]), find(&bytes(hex), &mut numbers));
         assert_eq!((j.answer, j.place, j.value), (answer, place, false), "{hex}");
-        assert_eq!((f.answer, f.place, f.bits, numbers), (answer, place, 0, [7; 15]), "{hex}");
-        assert_eq!(trimmed(hex, 600, 190), (answer, place, 0, 0, "".into()), "{hex}");
+        assert_eq!((f.answer, f.place, f.bits, numbers), (answer, place, 0, [7; NUMBERS]), "{hex}");
+        assert_eq!(trimmed(hex, 600, LONGEST), (answer, place, 0, 0, "".into()), "{hex}");
     }
-    assert_eq!(judge(&bytes(""), 0, &[0; 14]).answer, 11);
-    assert_eq!(find(&bytes(""), &mut [0; 16]).answer, 11);
-    assert_eq!(find(&bytes("02 02 04 00 05 00"), &mut [0; 15]).answer, 12);
-    assert_eq!(judge(&bytes("04 1f"), 1 << 31, &[0; 15]).value, true);
-    assert_eq!(judge(&bytes("06 01 00 80 89 7a"), 0, &[1_000_000; 15]).value, true);
+    assert_eq!(judge(&bytes(""), 0, &[0; NUMBERS - 1]).answer, 11);
+    assert_eq!(find(&bytes(""), &mut [0; NUMBERS + 1]).answer, 11);
+    assert_eq!(find(&bytes("02 02 04 00 05 00"), &mut [0; NUMBERS]).answer, 12);
+    assert_eq!(judge(&bytes("04 1f"), 1 << 31, &[0; NUMBERS]).value, true);
+    assert_eq!(judge(&bytes("06 01 00 80 89 7a"), 0, &[1_000_000; NUMBERS]).value, true);
 }

@@ -1,6 +1,6 @@
 //! The wrapper gives each answer its name, with its place.
 use travelring::Answer::*;
-use travelring::{find, judge, length, trim, trim_to_vec, Answer, Refusal, Trimmed};
+use travelring::{find, judge, trim, trim_to_vec, Answer, Refusal, Trimmed, NUMBERS, QUESTIONS};
 
 const TREE_8: [u8; 16] = [2, 2, 6, 1, 0, 10, 3, 2, 6, 1, 0, 6, 7, 1, 0, 10];
 
@@ -18,37 +18,36 @@ fn refusals() {
     ];
     for (tree, answer, number, place) in refused {
         let refusal = Refusal { answer, place };
-        assert_eq!(answer.number(), number);
-        assert_eq!(trim(tree, 600, &mut []), Err(refusal));
-        assert_eq!(judge(tree, 0, &[0; 15]), Err(refusal));
-        assert_eq!(find(tree, &mut [0; 15]), Err(refusal));
+        assert_eq!((answer.number(), answer.of_reading()), (number, true));
+        assert_eq!(trim(tree, QUESTIONS, &mut []), Err(refusal));
+        assert_eq!(judge(tree, 0, &[0; NUMBERS]), Err(refusal));
+        assert_eq!(find(tree, &mut [0; NUMBERS]), Err(refusal));
     }
+    assert!([Finished, Long, Stopped, Unfit, Nothing].iter().all(|answer| !answer.of_reading()));
 }
 
 #[test]
 fn trims() {
     let mut out = [0xee; 6];
-    assert_eq!(trim(&TREE_8, 600, &mut out[..3]), Err(Refusal { answer: Long, place: 4 }));
+    assert_eq!(trim(&TREE_8, QUESTIONS, &mut out[..3]), Err(Refusal { answer: Long, place: 4 }));
     assert_eq!(out, [0xee; 6]);
-    assert_eq!(trim(&TREE_8, 600, &mut out), Ok(Trimmed { finished: true, questions: 9, ends: 1 }));
+    assert_eq!(trim(&TREE_8, QUESTIONS, &mut out), Ok(Trimmed { finished: true, questions: 9, ends: 1, bytes: 4 }));
     assert_eq!(out, [6, 1, 0, 6, 0xee, 0xee]);
-    assert_eq!(length(&out), Some(4));
-    assert_eq!(length(&out[..4]), Some(4));
-    assert_eq!(length(&out[..3]), None);
-    assert_eq!(trim_to_vec(&TREE_8, 6), Ok((vec![2, 2, 6, 1, 0, 10, 6, 1, 0, 6], Trimmed { finished: false, questions: 6, ends: 2 })));
+    let stopped = Trimmed { finished: false, questions: 6, ends: 2, bytes: 10 };
+    assert_eq!(trim_to_vec(&TREE_8, 6), Ok((vec![2, 2, 6, 1, 0, 10, 6, 1, 0, 6], stopped)));
 }
 
 #[test]
 fn judges_and_finds() {
-    assert_eq!(judge(&[4, 31], 1 << 31, &[0; 15]), Ok(true));
-    assert_eq!(judge(&[4, 31], !(1 << 31), &[0; 15]), Ok(false));
-    let mut numbers = [7; 16];
-    for unfit in [0, 14, 16] {
+    assert_eq!(judge(&[4, 31], 1 << 31, &[0; NUMBERS]), Ok(true));
+    assert_eq!(judge(&[4, 31], !(1 << 31), &[0; NUMBERS]), Ok(false));
+    let mut numbers = [7; NUMBERS + 1];
+    for unfit in [0, NUMBERS - 1, NUMBERS + 1] {
         let refusal = Refusal { answer: Unfit, place: 0 };
         assert_eq!((judge(&[1], 0, &numbers[..unfit]), find(&[1], &mut numbers[..unfit])), (Err(refusal), Err(refusal)));
     }
-    assert_eq!(find(&[0], &mut numbers[..15]), Err(Refusal { answer: Nothing, place: 0 }));
-    assert_eq!(numbers, [7; 16]);
-    let flags = find(&TREE_8, &mut numbers[..15]).unwrap();
-    assert_eq!(judge(&TREE_8, flags, &numbers[..15]), Ok(true));
+    assert_eq!(find(&[0], &mut numbers[..NUMBERS]), Err(Refusal { answer: Nothing, place: 0 }));
+    assert_eq!(numbers, [7; NUMBERS + 1]);
+    let flags = find(&TREE_8, &mut numbers[..NUMBERS]).unwrap();
+    assert_eq!(judge(&TREE_8, flags, &numbers[..NUMBERS]), Ok(true));
 }

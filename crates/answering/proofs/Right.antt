@@ -7,6 +7,7 @@ use mathlib.Core.Logic.{_↔_}
 use native.Mathlib.Omega.{arith}
 use lib.IntN.{ℤ}
 use lib.ListN.{length}
+use Rattle.condition.specs.Limits.{questionRoom}
 use Rattle.condition.specs.Meaning.{Assignment, Tree, leaf, holds, negate, given}
 use Rattle.condition.specs.Satisfying.{Satisfiable}
 use Rattle.condition.specs.Folding.{live}
@@ -56,7 +57,7 @@ answered t i second v numbers h right =
     ))
 
 pub answers : (n : ℕ → Node) (size at : ℕ) (second : Bool) (o o' : List ℕ) (r : ℕ) (numbers numbers' : List ℤ) (v : Verdict) →
-    length o ≡ 64 → Asks n size at (not second) o r o' → Finds (nodeAt o') r numbers v numbers' → Answers n size at second numbers v
+    length o ≡ questionRoom → Asks n size at (not second) o r o' → Finds (nodeAt o') r numbers v numbers' → Answers n size at second numbers v
 answers n size at second o o' r numbers numbers' v wide asks finds = record {
   right = λ fifteen t laid is near within end.
       let a = asks .right t laid is near (omega arith) end (not-deeper t within) in

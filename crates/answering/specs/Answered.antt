@@ -5,7 +5,7 @@ use mathlib.Core.List.{List}
 use mathlib.Core.Bool.{Bool, true, false}
 use lib.IntN.{ℤ}
 use lib.ListN.{length}
-use Rattle.condition.specs.Limits.{lastNumber}
+use Rattle.condition.specs.Limits.{lastNumber, questionRoom}
 use Rattle.condition.specs.Meaning.{Tree, Within}
 use Rattle.condition.specs.Folding.{live}
 use Rattle.condition.specs.Deciding.{sat}
@@ -21,5 +21,5 @@ yes (Found bits) = false
 yes Nothing = true
 
 pub record Answers (n : ℕ → Node) (size at : ℕ) (second : Bool) (numbers : List ℤ) (r : Verdict) : Type 0 where
-  pub right : length numbers ≡ lastNumber → (t : Tree) → Laid t n 0 → nodes t ≡ size → size < 64 → Within t → at < live t →
+  pub right : length numbers ≡ lastNumber → (t : Tree) → Laid t n 0 → nodes t ≡ size → size < questionRoom → Within t → at < live t →
       yes r ≡ answer sat (stage t at second)

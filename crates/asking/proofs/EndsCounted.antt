@@ -4,6 +4,7 @@ use mathlib.Core.Path.{_≡_, refl, sym, ap, ap₂, _∙_}
 use mathlib.Core.List.{List}
 use native.Mathlib.Omega.{arith}
 use native.Mathlib.Numerals.{add-one}
+use Rattle.condition.specs.Limits.{questionRoom}
 use Rattle.condition.specs.Meaning.{End, Tree, plain, leaf, join, Forest, none, more}
 use Rattle.condition.specs.Folding.{live, liveAll}
 use Rattle.nodes.specs.declared.Node.{Node}
@@ -90,7 +91,7 @@ unfolding endsFrom
 few-ends n i zero = omega arith
 few-ends n i (suc k) = omega (arith, few-ends n i k, one-small (n (i + k)))
 
-pub lives : (n : ℕ → Node) (size r : ℕ) → size ≤ 64 → r ≡ endsFrom n 0 size → Lives n size r
+pub lives : (n : ℕ → Node) (size r : ℕ) → size ≤ questionRoom → r ≡ endsFrom n 0 size → Lives n size r
 lives n size r h e = record {
   few = omega (arith, few-ends n 0 size);
   right = λ t l same few. e ∙ ap (endsFrom n 0) (sym same) ∙ ends-are t n 0 l;

@@ -7,7 +7,7 @@ use mathlib.Core.Bool.{Bool, true, false}
 use native.Mathlib.Omega.{arith}
 use lib.ListN.{length, getD, set, length-set}
 use borrow.Rule.Slice.PartMut.{putMid}
-use Rattle.condition.specs.Limits.{deepest}
+use Rattle.condition.specs.Limits.{deepest, questionRoom}
 use Rattle.condition.specs.Meaning.{End, Join, Tree, plain, leaf, join, Forest, none, more, count}
 use Rattle.condition.specs.Depth.{deep, deepAll}
 use Rattle.condition.specs.Folding.{live, liveAll}
@@ -236,13 +236,13 @@ end-put s out i opp v w room e h = put-first out w room (h ∙ ap (λ x. turned 
 
 -- ---- `ask`
 
-pub large : (n : ℕ → Node) (size m : ℕ) (opp : Bool) (o : List ℕ) → 64 ≤ size → Asks n size m opp o 0 o
+pub large : (n : ℕ → Node) (size m : ℕ) (opp : Bool) (o : List ℕ) → questionRoom ≤ size → Asks n size m opp o 0 o
 large n size m opp o h = record { small = omega arith; long = refl; right = λ t l e near room lt d. absurd (omega arith) }
 
 pub no-room : (n : ℕ → Node) (size m : ℕ) (opp : Bool) (o : List ℕ) → length o ≤ size → Asks n size m opp o 0 o
 no-room n size m opp o h = record { small = omega arith; long = refl; right = λ t l e near room lt d. absurd (omega arith) }
 
-pub asks : (n : ℕ → Node) (size m : ℕ) (opp : Bool) (o₀ o₁ o : List ℕ) (k s trees : ℕ) → size < 64 → size < length o₀ →
+pub asks : (n : ℕ → Node) (size m : ℕ) (opp : Bool) (o₀ o₁ o : List ℕ) (k s trees : ℕ) → size < questionRoom → size < length o₀ →
     length o₁ ≡ length o₀ - 1 → length o ≡ length o₀ → Gathers n 0 size m deepest opp (nodeAt o₁) s trees →
     o ≡ set (putMid 1 k o₀ o₁) 0 (wordOf (node.Join true trees s)) → Asks n size m opp o₀ (s + 1) o
 unfolding Laid nodes

@@ -7,7 +7,7 @@ use mathlib.Core.Bool.{Bool, true, false, cond}
 use lib.Dec.{ltb}
 use lib.ListN.{length}
 use Rattle.condition.specs.Meaning.{End, opposite, Join, all, any, Tree, plain, leaf, join, Forest, none, more, count, negateAll}
-use Rattle.condition.specs.Limits.{deepest}
+use Rattle.condition.specs.Limits.{deepest, questionRoom}
 use Rattle.condition.specs.Depth.{deep, deepAll}
 use Rattle.condition.specs.Folding.{live, liveAll}
 use Rattle.condition.specs.Critical.{star}
@@ -109,9 +109,9 @@ pub record Gathers (n : ℕ → Node) (i left m depth : ℕ) (opp : Bool) (o : �
 pub record Asks (n : ℕ → Node) (size m : ℕ) (opp : Bool) (o : List ℕ) (r : ℕ) (o' : List ℕ) : Type 0 where
   pub small : r ≤ size + 1
   pub long : length o' ≡ length o
-  pub right : (t : Tree) → Laid t n 0 → nodes t ≡ size → size < 64 → size < length o → m < live t → deep t ≤ deepest →
+  pub right : (t : Tree) → Laid t n 0 → nodes t ≡ size → size < questionRoom → size < length o → m < live t → deep t ≤ deepest →
       Laid (question t m opp) (nodeAt o') 0 × (r ≡ nodes (question t m opp))
 
 pub record Lives (n : ℕ → Node) (size r : ℕ) : Type 0 where
-  pub few : r ≤ 64
-  pub right : (t : Tree) → Laid t n 0 → nodes t ≡ size → size ≤ 64 → r ≡ live t
+  pub few : r ≤ questionRoom
+  pub right : (t : Tree) → Laid t n 0 → nodes t ≡ size → size ≤ questionRoom → r ≡ live t

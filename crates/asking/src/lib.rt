@@ -1,9 +1,9 @@
 // Writes the question about an end: its critical constraint and the end or its opposite, as one `and`. The constraint is gathered by
 // recursion down the path to the end, and a sibling below an `or` is negated by recursion down its own paths; what falls is how many
-// connectives may still nest. Where a contract asks that a node's place and a count stay below 65536, that keeps every sum from wrapping.
+// connectives may still nest. Where a contract asks that a node's place and a count stay within the room, that keeps every sum from wrapping.
 use condition::DEEPEST;
+use condition::QUESTION_ROOM;
 use nodes::Node;
-use nodes::ROOM;
 use nodes::node_at;
 use nodes::opposed_word;
 use nodes::put_node;
@@ -12,6 +12,7 @@ use nodes::word_at;
 ghost use mathlib.Core.Path.{_≡_};
 ghost use Prim.Native.Nat.{ℕ, _+_, _≤_, _<_};
 ghost use lib.ListN.{length, getD};
+ghost use Rattle.condition.specs.Limits.{questionRoom};
 ghost use Rattle.nodes.specs.Words.{nodeOf, nodeAt};
 ghost use Rattle.asking.specs.Asked.{turned, oneEnd, endsFrom, Negates, NegatesAll, Stars, Sought, Siblings, Gathers, Asks, Lives};
 
@@ -30,7 +31,7 @@ struct Wrote {
 
 // The n nodes from i on, to the start of the output.
 fn copy(ns: &[u64], i: usize, n: usize, out: &mut [u64])
-    requires { ⌜ (i + n ≤ 65535) × (n ≤ length (now out)) ⌝ }
+    requires { ⌜ (i + n ≤ questionRoom) × (n ≤ length (now out)) ⌝ }
     ensures { λ _. ⌜ ((x : ℕ) → x < n → getD (now (out .exit)) x 0 ≡ getD (now (ns .entry)) (i + x) 0) ⌝ }
 {
     let mut k = 0;
@@ -42,7 +43,7 @@ fn copy(ns: &[u64], i: usize, n: usize, out: &mut [u64])
 
 // The negation of the tree in the n nodes from i on, to the start of the output.
 fn negate(ns: &[u64], i: usize, n: usize, depth: u32, out: &mut [u64])
-    requires { ⌜ (i + n ≤ 65535) × (n ≤ length (now out)) × (1 ≤ n) ⌝ }
+    requires { ⌜ (i + n ≤ questionRoom) × (n ≤ length (now out)) × (1 ≤ n) ⌝ }
     ensures { λ _. ⌜ Negates (nodeAt (now (ns .entry))) i n depth (nodeAt (now (out .exit))) ⌝ }
 {
     out[0] = opposed_word(word_at(ns, i));
@@ -53,7 +54,7 @@ fn negate(ns: &[u64], i: usize, n: usize, depth: u32, out: &mut [u64])
 
 // The negations of the trees in the n nodes from i on.
 fn negate_all(ns: &[u64], i: usize, n: usize, depth: u32, out: &mut [u64])
-    requires { ⌜ (i + n ≤ 65535) × (n ≤ length (now out)) ⌝ }
+    requires { ⌜ (i + n ≤ questionRoom) × (n ≤ length (now out)) ⌝ }
     ensures { λ _. ⌜ NegatesAll (nodeAt (now (ns .entry))) i n depth (nodeAt (now (out .exit))) ⌝ }
 {
     let mut k = 0;
@@ -69,7 +70,7 @@ fn negate_all(ns: &[u64], i: usize, n: usize, depth: u32, out: &mut [u64])
 
 // The trees in the n nodes from i on as a sibling of theirs has them in its constraint: as they are below an `and`, negated below an `or`.
 fn star(ns: &[u64], i: usize, n: usize, all: bool, depth: u32, out: &mut [u64])
-    requires { ⌜ (i + n ≤ 65535) × (n ≤ length (now out)) ⌝ }
+    requires { ⌜ (i + n ≤ questionRoom) × (n ≤ length (now out)) ⌝ }
     ensures { λ _. ⌜ Stars (nodeAt (now (ns .entry))) i n all depth (nodeAt (now (out .exit))) ⌝ }
 {
     if all {
@@ -92,7 +93,7 @@ fn one_end(n: Node) -> usize
 
 // How many ends the n nodes from i on have.
 fn ends(ns: &[u64], i: usize, n: usize) -> usize
-    requires { ⌜ i + n ≤ 65535 ⌝ }
+    requires { ⌜ i + n ≤ questionRoom ⌝ }
     ensures { λ r. ⌜ r ≡ endsFrom (nodeAt (now (ns .entry))) i n ⌝ }
 {
     let mut e: usize = 0;
@@ -106,7 +107,7 @@ fn ends(ns: &[u64], i: usize, n: usize) -> usize
 
 // Of the trees from node i up to `last`, the one that has their end m. Where no tree is laid out, it may have no node.
 fn seek(ns: &[u64], i: usize, last: usize, m: usize) -> Place
-    requires { ⌜ (i ≤ last) × (last ≤ 65535) ⌝ }
+    requires { ⌜ (i ≤ last) × (last ≤ questionRoom) ⌝ }
     ensures { λ r. ⌜ Sought (nodeAt (now (ns .entry))) i last m (r .at) (r .size) (r .end) ⌝ }
 {
     let mut at = i;
@@ -140,7 +141,7 @@ fn seek(ns: &[u64], i: usize, last: usize, m: usize) -> Place
 
 // The siblings of the tree c in the n nodes from i on, starred: the elder, then the younger.
 fn siblings(ns: &[u64], i: usize, n: usize, c: Place, all: bool, depth: u32, out: &mut [u64])
-    requires { ⌜ (i + n ≤ 65535) × (n ≤ length (now out)) × (i ≤ c .at) × (c .at + c .size ≤ i + n) ⌝ }
+    requires { ⌜ (i + n ≤ questionRoom) × (n ≤ length (now out)) × (i ≤ c .at) × (c .at + c .size ≤ i + n) ⌝ }
     ensures { λ _. ⌜ Siblings (nodeAt (now (ns .entry))) i n (c .at) (c .size) all depth (nodeAt (now (out .exit))) ⌝ }
 {
     let elder = c.at - i;
@@ -158,7 +159,7 @@ fn turn(opposite: bool, w: u64) -> u64
 
 // What the question asks of the tree of p: of a connective the siblings of the child that has the end, then what it asks of that child.
 fn gather(ns: &[u64], p: Place, depth: u32, opposite: bool, out: &mut [u64]) -> Wrote
-    requires { ⌜ (p .at + p .size ≤ 65535) × (p .size ≤ length (now out)) ⌝ }
+    requires { ⌜ (p .at + p .size ≤ questionRoom) × (p .size ≤ length (now out)) ⌝ }
     ensures { λ r. ⌜ Gathers (nodeAt (now (ns .entry))) (p .at) (p .size) (p .end) depth opposite (nodeAt (now (out .exit))) (r .size) (r .trees) ⌝ }
 {
     let i = p.at;
@@ -203,7 +204,7 @@ fn gather(ns: &[u64], p: Place, depth: u32, opposite: bool, out: &mut [u64]) -> 
 pub fn ask(ns: &[u64], n: usize, m: usize, opposite: bool, out: &mut [u64]) -> usize
     ensures { λ r. ⌜ Asks (nodeAt (now (ns .entry))) n m opposite (now (out .entry)) r (now (out .exit)) ⌝ }
 {
-    if ROOM <= n {
+    if QUESTION_ROOM <= n {
         return 0;
     }
     if out.len() <= n {
@@ -228,7 +229,7 @@ pub fn ask(ns: &[u64], n: usize, m: usize, opposite: bool, out: &mut [u64]) -> u
 pub fn live(ns: &[u64], n: usize) -> usize
     ensures { λ r. ⌜ Lives (nodeAt (now (ns .entry))) n r ⌝ }
 {
-    if ROOM < n {
+    if QUESTION_ROOM < n {
         return 0;
     }
     ends(ns, 0, n)

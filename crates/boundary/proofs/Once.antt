@@ -7,6 +7,7 @@ use native.Mathlib.Omega.{arith}
 use lib.IntN.{ℤ}
 use lib.ListN.{getD, set}
 use lib.Seq.{getD-set-other}
+use Rattle.condition.proofs.Answers.{apart}
 use Rattle.cursor.proofs.Refusals.{back}
 use Rattle.travelring.specs.declared.Found.{Found}
 use Rattle.travelring.specs.declared.Found.the-variants as found
@@ -48,7 +49,7 @@ place-none (x ∷ report) = refl
 found-place : (r : Found) → toldFound r .answer ≡ 0 → toldFound r .place ≡ 0
 found-place (found.Shown bits) e = refl
 found-place found.Nothing e = refl
-found-place (found.Refused why) e = absurd (omega (arith, back why .least))
+found-place (found.Refused why) e = absurd (apart (back why .of) 0 refl e)
 found-place found.Unfit e = refl
 
 pub find-once-in-c : (s : List ℕ) (numbers numbers₁ numbers₂ : List ℤ) (r r' : ℕ) (report report₁ report₂ : List ℕ) →

@@ -5,48 +5,47 @@ use mathlib.Core.List.{List}
 use mathlib.Core.Bool.{cond}
 use lib.IntN.{ℤ}
 use lib.ListN.{length, set}
+use Rattle.travelring.specs.declared.Judgement.{Judgement}
 use Rattle.travelring.specs.declared.Judged.{Judged}
+use Rattle.travelring.specs.declared.Finding.{Finding}
 use Rattle.travelring.specs.declared.Found.{Found}
+use Rattle.travelring.specs.declared.Trimming.{Trimming}
 use Rattle.travelring.specs.declared.Trimmed.{Trimmed}
-use Rattle.boundary.specs.declared.Said.{Said}
-use Rattle.boundary.specs.declared.SaidTrimmed.{SaidTrimmed}
 use Rattle.travelring.specs.Judging.{judged, told}
 use Rattle.travelring.specs.Finding.{toldFound, Finds}
-use Rattle.travelring.specs.Trimming.{outcome, Trims}
-use Rattle.boundary.specs.Reports.{Reports, ReportsJudged, ReportsFound, ReportsTrimmed, saidJudged, saidFound, saidTrimmed}
+use Rattle.travelring.specs.Trimming.{outcome, toldTrimmed, lengthTold, Trims}
+use Rattle.boundary.specs.Reports.{Reports, ReportsJudged, ReportsFound, ReportsTrimmed}
 
--- three numbers, two of them written
-reports : (said : Said) (answer place value : ℕ) → said .0 ≡ answer → said .1 ≡ place → said .2 ≡ value → (report : List ℕ) →
-    Reports answer place value (said .0) report (set (set report 0 (said .1)) 1 (said .2))
-reports said answer place value a p v report = record { answered = a; written = ap₂ (λ x y. set (set report 0 x) 1 y) p v }
+pub judge-reports : (s : List ℕ) (flags : ℕ) (numbers : List ℤ) (report : List ℕ) (r : Judged) (j : Judgement) (value : ℕ) →
+    told r ≡ judged s flags numbers → j ≡ told r → value ≡ cond (j .value) 1 0 →
+    ReportsJudged (judged s flags numbers) (j .answer) report (set (set report 0 (j .place)) 1 value)
+judge-reports s flags numbers report r j value e q v =
+    let same = q ∙ e in
+    record {
+      answered = ap (λ x. x .answer) same;
+      written = ap₂ (λ x y. set (set report 0 x) 1 y) (ap (λ x. x .place) same) (v ∙ ap (λ x. cond (x .value) 1 0) same);
+    }
 
-pub judge-reports : (s : List ℕ) (flags : ℕ) (numbers : List ℤ) (report : List ℕ) (r : Judged) (said : Said) →
-    told r ≡ judged s flags numbers → said ≡ saidJudged r →
-    ReportsJudged (judged s flags numbers) (said .0) report (set (set report 0 (said .1)) 1 (said .2))
-judge-reports s flags numbers report r said e q =
-    let j = judged s flags numbers in
-    reports said (j .answer) (j .place) (cond (j .value) 1 0)
-    (ap (λ x. x .0) q ∙ ap (λ x. x .answer) e)
-    (ap (λ x. x .1) q ∙ ap (λ x. x .place) e)
-    (ap (λ x. x .2) q ∙ ap (λ x. cond (x .value) 1 0) e)
-    report
-
-pub find-reports : (s : List ℕ) (numbers numbers' : List ℤ) (report : List ℕ) (r : Found) (said : Said) →
-    Finds s numbers r numbers' → said ≡ saidFound r →
-    ReportsFound s numbers numbers' (said .0) report (set (set report 0 (said .1)) 1 (said .2))
-find-reports s numbers numbers' report r said f q = record {
+pub find-reports : (s : List ℕ) (numbers numbers' : List ℤ) (report : List ℕ) (r : Found) (f : Finding) →
+    Finds s numbers r numbers' → f ≡ toldFound r →
+    ReportsFound s numbers numbers' (f .answer) report (set (set report 0 (f .place)) 1 (f .flags))
+find-reports s numbers numbers' report r f finds q = record {
   found = r;
-  finds = f;
-  reports = reports said (toldFound r .answer) (toldFound r .place) (toldFound r .flags) (ap (λ x. x .0) q) (ap (λ x. x .1) q)
-      (ap (λ x. x .2) q) report;
+  finds = finds;
+  reports = record {
+    answered = ap (λ x. x .answer) q;
+    written = ap (λ x. set (set report 0 (x .place)) 1 (x .flags)) q;
+  };
 }
 
-pub trim-reports : (s : List ℕ) (ration : ℕ) (out out' report : List ℕ) (r : Trimmed) (said : SaidTrimmed) →
-    Trims s ration out r out' → said ≡ saidTrimmed r →
-    ReportsTrimmed s ration out out' (said .0) report (set (set (set report 0 (said .1)) 1 (said .2)) 2 (said .3))
-trim-reports s ration out out' report r said h q =
-    let e = h .told in
-    let place = ap (λ x. x .1) q ∙ ap (λ x. x .place) e in
-    let questions = ap (λ x. x .2) q ∙ ap (λ x. x .questions) e in
-    let ends = ap (λ x. x .3) q ∙ ap (λ x. x .ends) e in
-    record { answered = ap (λ x. x .0) q ∙ ap (λ x. x .answer) e; written = simp (place, questions, ends); lent = h .lent }
+pub trim-reports : (s : List ℕ) (ration : ℕ) (out out' report : List ℕ) (r : Trimmed) (t : Trimming) (long : ℕ) →
+    Trims s ration out r out' → t ≡ toldTrimmed r → long ≡ lengthTold r →
+    ReportsTrimmed s ration out out' (t .answer) report
+    (set (set (set (set report 0 (t .place)) 1 (t .questions)) 2 (t .ends)) 3 long)
+trim-reports s ration out out' report r t long h q l =
+    let same = q ∙ h .told in
+    record {
+      answered = ap (λ x. x .answer) same;
+      written = ap₂ (λ x y. set (set (set (set report 0 (x .place)) 1 (x .questions)) 2 (x .ends)) 3 y) same (l ∙ h .long);
+      lent = h .lent;
+    }

@@ -1,8 +1,8 @@
--- What stands at the place of a refusal of 2 to 7. A walk of reading along its own cases, with what was taken so far (Sound): between two
+-- What stands at the place of a refusal, 1 and 8 aside. A walk of reading along its own cases, with what was taken so far (Sound): between two
 -- nodes that is nodes with which a tree begins, since the bytes of a tree that was read are such (`begun-tree`). So each refusal meets its
 -- row. The depth that `readTree` is given lasts, as in Round.
 use Prim.Native.Nat.{ℕ, zero, suc, _+_, _*_, _≤_, _<_}
-use mathlib.Core.Path.{_≡_, refl}
+use mathlib.Core.Path.{_≡_, refl, sym, _∙_}
 use mathlib.Core.List.{List, [], _∷_, _++_, append-assoc, append-nil}
 use mathlib.Core.Bool.{Bool, true, false, cond, _&&_}
 use native.Mathlib.Omega.{arith}
@@ -12,11 +12,12 @@ use lib.ListN.{length, length-append}
 use lib.Seq.{take-at, drop-at}
 use borrow.Table.Steps.{cases}
 use borrow.Author.Tests.{ltb-true, ltb-false, leb-false, eqb-true}
-use Rattle.condition.specs.Limits.{mostEnds, lastBoolean, lastNumber, largestBound, groups}
+use Rattle.condition.specs.Answers as answers
+use Rattle.condition.specs.Limits.{mostEnds, lastBoolean, lastNumber, largestBound, lastTag, groups, groupSize}
 use Rattle.condition.specs.Meaning.{Join, all, any, Tree, plain, leaf, join, Forest, none, more}
 use Rattle.condition.specs.Meaning.{ends, endsAll, count, Formed, FormedAll}
 use Rattle.condition.specs.Bytes.{Octets, groupsOf, number, joinTag, plainTag, bytes, bytesAll}
-use Rattle.condition.specs.Reading.{Reading, got, refused, then, numberFrom, checked, upTo, readCount, readEnd}
+use Rattle.condition.specs.Reading.{Reading, got, refused, then, numberFrom, checked, upTo, readBound, readName, readTag, readCount, readEnd}
 use Rattle.condition.specs.Reading.{readJoin, readNode, readAll, readTree, refusal, whole, read}
 use Rattle.condition.specs.Places.{Begun, start, connective, constant, end, NodePart, tag, childCount, bound, name}
 use Rattle.condition.specs.Places.{Awaits, tag-next, count-next, boolean-next, x-next, y-next, c-next}
@@ -58,7 +59,7 @@ mutual
 -- the place is within the input: a byte stands there
 number-some : (n : ℕ) (l : List ℕ) → 1 ≤ length (number n ++ l)
 unfolding groupsOf
-number-some n l = cases (ltb n 128) (λ e. rw e (omega arith)) (λ e. rw e (omega arith))
+number-some n l = cases (ltb n groupSize) (λ e. rw e (omega arith)) (λ e. rw e (omega arith))
 
 malformed-some : {l : List ℕ} → Malformed l → 1 ≤ length l
 malformed-some (third-byte h) = omega arith
@@ -83,10 +84,10 @@ stands {u = u} {l = l} {at = at} took fault =
       fault = rw (take-at u l at place, drop-at u l at place) fault;
     })
 
--- a reading of s that refuses with 2 or more does so where a fault stands
+-- a reading of s that refuses, and not for want of bytes, does so where a fault stands
 abbrev Faulted : {A : Type 0} → Reading A → List ℕ → Type 0
 Faulted (got x l at) s = Unit {0}
-Faulted (refused n p) s = 2 ≤ n → FaultAt s n p
+Faulted (refused n p) s = (n ≡ answers.ended → ⊥) → FaultAt s n p
 
 faulted-then : {A B : Type 0} (s : List ℕ) (r : Reading A) (next : A → List ℕ → ℕ → Reading B) (P : A → List ℕ → ℕ → Type 0) →
     Faulted r s → Yields r P → ((x : A) (l : List ℕ) (at : ℕ) → P x l at → Faulted (next x l at) s) → Faulted (then r next) s
@@ -111,19 +112,19 @@ padding b first at h =
 
 -- a number's next byte, of the bytes l of which P is known: it is padding, or more bytes come after it, or it is not at fault
 byte-faults : (s : List ℕ) (P : List ℕ → Type 0) (g first : ℕ) (l : List ℕ) (at : ℕ) → P l →
-    (first < at → (m : List ℕ) → P (0 ∷ m) → FaultAt s 2 first) →
-    ((b : ℕ) (m : List ℕ) → 128 ≤ b → P (b ∷ m) → Faulted (numberFrom g first m (at + 1)) s) → Faulted (numberFrom (suc g) first l at) s
+    (first < at → (m : List ℕ) → P (0 ∷ m) → FaultAt s answers.form first) →
+    ((b : ℕ) (m : List ℕ) → groupSize ≤ b → P (b ∷ m) → Faulted (numberFrom g first m (at + 1)) s) → Faulted (numberFrom (suc g) first l at) s
 unfolding numberFrom
-byte-faults s P g first [] at h padded more-bytes = λ two. absurd (omega arith)
+byte-faults s P g first [] at h padded more-bytes = λ some. absurd (some refl)
 byte-faults s P g first (b ∷ l) at h padded more-bytes =
-    faulted-cond s (ltb b 128) _ _
-    (λ e. faulted-cond s (eqb b 0 && ltb first at) (refused 2 first) _
-    (λ q two. let zeroed = padding b first at q in padded (zeroed .1) l (rw (zeroed .0) at h))
+    faulted-cond s (ltb b groupSize) _ _
+    (λ e. faulted-cond s (eqb b 0 && ltb first at) (refused answers.form first) _
+    (λ q some. let zeroed = padding b first at q in padded (zeroed .1) l (rw (zeroed .0) at h))
     (λ q. tt))
-    (λ e. faulted-last s (numberFrom g first l (at + 1)) _ (more-bytes b l (ltb-false b 128 e) h))
+    (λ e. faulted-last s (numberFrom g first l (at + 1)) _ (more-bytes b l (ltb-false b groupSize e) h))
 
 module _ (s u : List ℕ) (part : NodePart) (next : Awaits part u) where
-  bad : {l : List ℕ} {at : ℕ} → Took u s 0 l at → Malformed l → FaultAt s 2 at
+  bad : {l : List ℕ} {at : ℕ} → Took u s 0 l at → Malformed l → FaultAt s answers.form at
   bad took m = stands took (malformed part next m)
 
   number-faults : (l : List ℕ) (at : ℕ) → Took u s 0 l at → Faulted (numberFrom groups at l at) s
@@ -132,7 +133,7 @@ module _ (s u : List ℕ) (part : NodePart) (next : Awaits part u) where
       byte-faults s (λ l. Took u s 0 l at) 2 at l at took (λ later. absurd (omega arith)) (λ a l1 high1 took1.
       byte-faults s (λ l. Took u s 0 (a ∷ l) at) 1 at l1 (at + 1) took1 (λ later m t. bad t (two-bytes high1)) (λ b l2 high2 took2.
       byte-faults s (λ l. Took u s 0 (a ∷ b ∷ l) at) 0 at l2 (at + 1 + 1) took2 (λ later m t. bad t (three-bytes (high1, high2)))
-      (λ c l3 high3 took3 two. bad took3 (third-byte (high1, high2, high3)))))
+      (λ c l3 high3 took3 some. bad took3 (third-byte (high1, high2, high3)))))
 
   checked-faults : (test : ℕ → Bool) (answer : ℕ) → ((n : ℕ) (l : List ℕ) → test n ≡ false → Held n → Fault answer u (number n ++ l)) →
       (l : List ℕ) (at : ℕ) → Took u s 0 l at → Faulted (checked test answer l at) s
@@ -150,30 +151,30 @@ module _ (s u : List ℕ) (part : NodePart) (next : Awaits part u) where
 count-faults : (s u : List ℕ) → Awaits childCount u → (l : List ℕ) (at : ℕ) → Took u s 0 l at → Faulted (readCount l at) s
 unfolding readCount
 count-faults s u next l at took =
-    checked-faults s u childCount next (λ k. leb 2 k) 4 (λ k l e held. low-count k l next (omega (arith, leb-false 2 k e))) l at took
+    checked-faults s u childCount next (λ k. leb 2 k) answers.count (λ k l e held. low-count k l next (omega (arith, leb-false 2 k e))) l at took
 
-name-faults : (s u : List ℕ) (last : ℕ) → Awaits (name last) u → (l : List ℕ) (at : ℕ) → Took u s 0 l at → Faulted (upTo last 5 l at) s
-name-faults s u last next l at took = upTo-faults s u (name last) next last 5 (λ x l. high-name last x l next) l at took
+name-faults : (s u : List ℕ) (last : ℕ) → Awaits (name last) u → (l : List ℕ) (at : ℕ) → Took u s 0 l at → Faulted (readName last l at) s
+name-faults s u last next l at took = upTo-faults s u (name last) next last answers.name (λ x l. high-name last x l next) l at took
 
 -- Ends, by their tags
-end-faults : (s u : List ℕ) → Awaits tag u → (g : ℕ) (l : List ℕ) (at : ℕ) → (4 ≤ g) × (g ≤ 7) → Took (u ++ number g) s 0 l at →
+end-faults : (s u : List ℕ) → Awaits tag u → (g : ℕ) (l : List ℕ) (at : ℕ) → (4 ≤ g) × (g ≤ lastTag) → Took (u ++ number g) s 0 l at →
     Faulted (readEnd g l at) s
 unfolding readEnd
 end-faults s u next g l at h took =
     faulted-cond s (ltb g 6) _ _
     (λ e.
     let boolean = boolean-next g next (omega (arith, ltb-true g 6 e)) in
-    faulted-last s (upTo lastBoolean 5 l at) _ (name-faults s _ lastBoolean boolean l at took))
+    faulted-last s (readName lastBoolean l at) _ (name-faults s _ lastBoolean boolean l at took))
     (λ e.
-    let six : (6 ≤ g) × (g ≤ 7) = omega (arith, ltb-false g 6 e) in
-    faulted-then s (upTo lastNumber 5 l at) _ _ (name-faults s _ lastNumber (x-next g next six) l at took)
-    (upTo-written lastNumber 5 l at (took .rest)) (λ x l1 at1 w1.
+    let six : (6 ≤ g) × (g ≤ lastTag) = omega (arith, ltb-false g 6 e) in
+    faulted-then s (readName lastNumber l at) _ _ (name-faults s _ lastNumber (x-next g next six) l at took)
+    (upTo-written lastNumber answers.name l at (took .rest)) (λ x l1 at1 w1.
     let took1 = took-again took (w1 .took) in
-    faulted-then s (upTo lastNumber 5 l1 at1) _ _ (name-faults s _ lastNumber (y-next g x next six (w1 .good)) l1 at1 took1)
-    (upTo-written lastNumber 5 l1 at1 (took1 .rest)) (λ y l2 at2 w2.
+    faulted-then s (readName lastNumber l1 at1) _ _ (name-faults s _ lastNumber (y-next g x next six (w1 .good)) l1 at1 took1)
+    (upTo-written lastNumber answers.name l1 at1 (took1 .rest)) (λ y l2 at2 w2.
     let c = c-next g x y next six (w1 .good, w2 .good) in
-    faulted-last s (upTo (2 * largestBound) 6 l2 at2) _
-    (upTo-faults s _ bound c (2 * largestBound) 6 (λ w l. high-bound w l c) l2 at2 (took-again took1 (w2 .took))))))
+    faulted-last s (readBound l2 at2) _
+    (upTo-faults s _ bound c (2 * largestBound) answers.bound (λ w l. high-bound w l c) l2 at2 (took-again took1 (w2 .took))))))
 
 -- Nodes, by their tags
 module _ (s : List ℕ) (kids : ℕ → List ℕ → ℕ → Reading Forest) (u : List ℕ) (past owed : ℕ) (begun : Begun u past (suc owed))
@@ -198,8 +199,8 @@ module _ (s : List ℕ) (kids : ℕ → List ℕ → ℕ → Reading Forest) (u 
   unfolding readNode
   node-faults l at took =
       let next = tag-next begun in
-      faulted-then s (upTo 7 3 l at) _ _ (upTo-faults s u tag next 7 3 (λ g l. high-tag g l next) l at took)
-      (upTo-written 7 3 l at (took .rest)) (λ g l1 at1 w1.
+      faulted-then s (readTag l at) _ _ (upTo-faults s u tag next lastTag answers.tag (λ g l. high-tag g l next) l at took)
+      (upTo-written lastTag answers.tag l at (took .rest)) (λ g l1 at1 w1.
       faulted-cond s (ltb g 2) _ _ (λ e. tt)
       (λ e. faulted-cond s (ltb g 4) _ _
       (λ q. join-faults g l at l1 at1 (omega (arith, ltb-false g 2 e, ltb-true g 4 q)) took (w1 .took))
@@ -237,18 +238,20 @@ tree-faults s (suc d) u l at others past owed begun same room deep took =
     all-faults s (readTree d) d reads (tree-faults s d) k v l1 at1 (past + owed) past owed b refl few (omega arith) t) l at took)
 
 -- the whole input
-whole-faults : (r : Reading Tree) (s : List ℕ) (n p : ℕ) → Faulted r s → whole r ≡ refusal n p → (2 ≤ n) × (n ≤ 7) → FaultAt s n p
-whole-faults (got t [] at) s n p h e range = let z : _≡_ {A = ℕ} 0 1 = cc in absurd (omega arith)
-whole-faults (got t (b ∷ l) at) s n p h e range = let answer : n ≡ 8 = cc in absurd (omega arith)
-whole-faults (refused m q) s n p h e range =
+whole-faults : (r : Reading Tree) (s : List ℕ) (n p : ℕ) → Faulted r s → whole r ≡ refusal n p →
+    (n ≡ answers.ended → ⊥) → (n ≡ answers.after → ⊥) → FaultAt s n p
+whole-faults (got t [] at) s n p h e some inside = let z : _≡_ {A = ℕ} 0 1 = cc in absurd (omega arith)
+whole-faults (got t (b ∷ l) at) s n p h e some inside = let answer : n ≡ answers.after = cc in absurd (inside answer)
+whole-faults (refused m q) s n p h e some inside =
     let answer : m ≡ n = cc in
     let place : q ≡ p = cc in
-    rw (← answer, ← place) (h (omega arith))
+    rw (← answer, ← place) (h (λ z. some (sym answer ∙ z)))
 
--- answers 2 to 7: at the place stands what the row says
-pub place-of-fault : (s : List ℕ) (n p : ℕ) → Octets s → read s ≡ refusal n p → (2 ≤ n) × (n ≤ 7) → FaultAt s n p
+-- an answer of reading but 1 and 8: at the place stands what the row says
+pub place-of-fault : (s : List ℕ) (n p : ℕ) → Octets s → read s ≡ refusal n p →
+    (n ≡ answers.ended → ⊥) → (n ≡ answers.after → ⊥) → FaultAt s n p
 unfolding read
-place-of-fault s n p o e range =
+place-of-fault s n p o e some inside =
     let took : Took [] s 0 s 0 = record { from = refl; to = refl; rest = o } in
     let faults = tree-faults s mostEnds [] s 0 0 0 0 start (omega arith) (omega arith) (omega arith) took in
-    whole-faults (readTree mostEnds s 0 0) s n p faults e range
+    whole-faults (readTree mostEnds s 0 0) s n p faults e some inside

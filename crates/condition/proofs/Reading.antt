@@ -1,14 +1,16 @@
 -- Reading and writing, in the words of document 01: from Round (what is written is read), Sound (what reads was written) and Moves (where
--- a reading stops). That no tree has more than 190 bytes is by recursion over the tree.
+-- a reading stops). That no tree is longer than the longest is by recursion over the tree.
 use Prim.Native.Nat.{ℕ, zero, suc, _+_, _*_, _/_, _≤_, _<_}
-use mathlib.Core.Path.{_≡_, refl, sym, ap, _∙_}
+use mathlib.Core.Path.{_≡_, refl, sym, ap, subst, _∙_}
 use mathlib.Core.List.{List, [], _∷_, _++_, append-nil}
 use native.Mathlib.Omega.{arith}
 use lib.Dec.{ltb}
 use lib.ListN.{length, getD, length-append}
 use borrow.Table.Steps.{cases}
 use borrow.Author.Tests.{ltb-true, lt-ltb}
-use Rattle.condition.specs.Limits.{mostEnds, deepest, lastNumber, groups}
+use Rattle.condition.specs.Limits.{mostEnds, deepest, lastNumber, lastTag, groups, groupSize, longestTree}
+use Rattle.condition.specs.Answers as answers
+use Rattle.condition.specs.Answers.{OfReading, of-after}
 use Rattle.condition.specs.Meaning.{End, is, isNot, atMost, above, Join, all, any, Tree, plain, leaf, join, Forest, none, more}
 use Rattle.condition.specs.Meaning.{ends, endsAll, count, EndWithin, Formed, FormedAll, Within}
 use Rattle.condition.specs.Bytes.{Octets, groupsOf, number, written, endBytes, joinTag, plainTag, bytes, bytesAll}
@@ -72,9 +74,9 @@ number-octets : (g n : ℕ) → Octets (groupsOf g n)
 unfolding Octets groupsOf
 number-octets zero n = tt
 number-octets (suc g) n =
-    cases (ltb n 128)
-    (λ e. rw e (omega (arith, ltb-true n 128 e), tt))
-    (λ e. rw e (omega arith, number-octets g (n / 128)))
+    cases (ltb n groupSize)
+    (λ e. rw e (omega (arith, ltb-true n groupSize e), tt))
+    (λ e. rw e (omega arith, number-octets g (n / groupSize)))
 
 end-octets : (e : End) → Octets (endBytes e)
 unfolding endBytes
@@ -98,39 +100,38 @@ mutual
 
 -- what is known of a refusal of bytes of which there are `end`
 record Known (end n p : ℕ) : Type 0 where
-  least : 1 ≤ n
-  most : n ≤ 8
-  one : n ≡ 1 → p ≡ end
+  why : OfReading n
+  short : n ≡ answers.ended → p ≡ end
 
 whole-known : (r : Reading Tree) (end n p : ℕ) → Ended r end → whole r ≡ refusal n p → Known end n p
 whole-known (got t [] at) end n p h e = let z : _≡_ {A = ℕ} 0 1 = cc in absurd (omega arith)
 whole-known (got t (b ∷ l) at) end n p h e =
-    let answer : n ≡ 8 = cc in
-    record { least = omega arith; most = omega arith; one = λ z. absurd (omega arith) }
+    let answer : n ≡ answers.after = cc in
+    record { why = subst OfReading (sym answer) of-after; short = λ z. absurd (omega arith) }
 whole-known (refused m q) end n p h e =
     let answer : n ≡ m = cc in
     let place : p ≡ q = cc in
-    record { least = omega (arith, h .0); most = omega (arith, h .1); one = λ z. place ∙ h .2 (omega arith) }
+    record { why = subst OfReading (sym answer) (h .0); short = λ z. place ∙ h .2 (omega arith) }
 
 known : (s : List ℕ) (n p : ℕ) → read s ≡ refusal n p → Known (length s) n p
 unfolding read
 known s n p e = whole-known (readTree mostEnds s 0 0) (length s) n p (tree-ends (length s) mostEnds 0 s 0 (omega arith)) e
 
--- reading refuses with 1 to 8
-pub refusals : (s : List ℕ) (n p : ℕ) → read s ≡ refusal n p → (1 ≤ n) × (n ≤ 8)
-refusals s n p e = (known s n p e .least, known s n p e .most)
+-- what reading refuses with
+pub refusals : (s : List ℕ) (n p : ℕ) → read s ≡ refusal n p → OfReading n
+refusals s n p e = known s n p e .why
 
 -- answer 1: the place is the input length
-pub ended-at-end : (s : List ℕ) (p : ℕ) → read s ≡ refusal 1 p → p ≡ length s
-ended-at-end s p e = known s 1 p e .one refl
+pub ended-at-end : (s : List ℕ) (p : ℕ) → read s ≡ refusal answers.ended p → p ≡ length s
+ended-at-end s p e = known s answers.ended p e .short refl
 
 -- answer 8: bytes that follow a tree are refused, at the first of them
-pub after-tree : (t : Tree) (b : ℕ) (l : List ℕ) → Within t → read (bytes t ++ b ∷ l) ≡ refusal 8 (length (bytes t))
+pub after-tree : (t : Tree) (b : ℕ) (l : List ℕ) → Within t → read (bytes t ++ b ∷ l) ≡ refusal answers.after (length (bytes t))
 unfolding read
 after-tree t b l w =
-    ap whole (tree-read t mostEnds 0 (w .formed) (omega (arith, w .few)) (omega arith) (b ∷ l) 0) ∙ ap (refusal 8) (omega arith)
+    ap whole (tree-read t mostEnds 0 (w .formed) (omega (arith, w .few)) (omega arith) (b ∷ l) 0) ∙ ap (refusal answers.after) (omega arith)
 
-whole-follows : (r : Reading Tree) (s : List ℕ) (p : ℕ) → Yields r (TreeWritten 0 s 0) → Ended r (length s) → whole r ≡ refusal 8 p →
+whole-follows : (r : Reading Tree) (s : List ℕ) (p : ℕ) → Yields r (TreeWritten 0 s 0) → Ended r (length s) → whole r ≡ refusal answers.after p →
     Follows s p
 whole-follows (got t [] at) s p w h e = let z : _≡_ {A = ℕ} 0 1 = cc in absurd (omega arith)
 whole-follows (got t (b ∷ l) at) s p w h e =
@@ -143,10 +144,10 @@ whole-follows (got t (b ∷ l) at) s p w h e =
       made = w .took .from;
       after = omega (arith, w .took .to);
     }
-whole-follows (refused n q) s p w h e = let answer : n ≡ 8 = cc in absurd (omega (arith, h .1))
+whole-follows (refused n q) s p w h e = let answer : n ≡ answers.after = cc in absurd (h .1 answer)
 
 -- and refused with 8 are no others
-pub after-place : (s : List ℕ) (p : ℕ) → Octets s → read s ≡ refusal 8 p → Follows s p
+pub after-place : (s : List ℕ) (p : ℕ) → Octets s → read s ≡ refusal answers.after p → Follows s p
 unfolding read
 after-place s p o e =
     whole-follows (readTree mostEnds s 0 0) s p (tree-written mostEnds s 0 0 (omega arith) o)
@@ -155,19 +156,19 @@ after-place s p o e =
 pub number-length : (g n : ℕ) → length (groupsOf g n) ≤ g
 unfolding groupsOf
 number-length zero n = omega arith
-number-length (suc g) n = cases (ltb n 128) (λ e. rw e (omega arith)) (λ e. rw e (omega (arith, number-length g (n / 128))))
+number-length (suc g) n = cases (ltb n groupSize) (λ e. rw e (omega arith)) (λ e. rw e (omega (arith, number-length g (n / groupSize))))
 
-short-length : (n : ℕ) → n < 128 → length (number n) ≡ 1
+short-length : (n : ℕ) → n < groupSize → length (number n) ≡ 1
 unfolding groupsOf
-short-length n h = rw (lt-ltb n 128 h)
+short-length n h = rw (lt-ltb n groupSize h)
 
-difference-length : (g x y w : ℕ) → (g ≤ 7) × (x ≤ lastNumber) × (y ≤ lastNumber) →
-    length (number g ++ (number x ++ (number y ++ number w))) ≤ 6
+difference-length : (g x y w : ℕ) → (g ≤ lastTag) × (x ≤ lastNumber) × (y ≤ lastNumber) →
+    length (number g ++ (number x ++ (number y ++ number w))) ≤ 3 + groups
 difference-length g x y w h =
     simp (length-append, short-length g (omega arith), short-length x (omega arith), short-length y (omega arith))
     (omega (arith, number-length groups w))
 
-end-length : (e : End) → EndWithin e → length (endBytes e) ≤ 6
+end-length : (e : End) → EndWithin e → length (endBytes e) ≤ 3 + groups
 unfolding endBytes
 end-length (is p) within = simp length-append (omega (arith, number-length groups 4, number-length groups p))
 end-length (isNot p) within = simp length-append (omega (arith, number-length groups 5, number-length groups p))
@@ -178,27 +179,30 @@ tag-length : (j : Join) → length (number (joinTag j)) ≡ 1
 tag-length all = short-length 2 (omega arith)
 tag-length any = short-length 3 (omega arith)
 
--- an end has at most 6 bytes; a connective adds 2, and has two children or more
+-- an end has at most a tag, two names and a bound; a connective adds a tag and a count, and has two children or more
 mutual
   unfolding bytes bytesAll Formed FormedAll ends endsAll
 
-  tree-length : (t : Tree) → Formed t → ends t ≤ mostEnds → length (bytes t) + 2 ≤ 8 * ends t
+  tree-length : (t : Tree) → Formed t → ends t ≤ mostEnds → length (bytes t) + 2 ≤ (5 + groups) * ends t
   tree-length (plain b) formed few = omega (arith, number-length groups (plainTag b))
   tree-length (leaf e) formed few = omega (arith, end-length e formed)
   tree-length (join j ts) formed few =
       let owed = ends-each ts (formed .1) in
       simp (length-append, tag-length, short-length (count ts) (omega arith)) (omega (arith, all-length ts (formed .1) few))
 
-  all-length : (ts : Forest) → FormedAll ts → endsAll ts ≤ mostEnds → length (bytesAll ts) + 2 * count ts ≤ 8 * endsAll ts
+  all-length : (ts : Forest) → FormedAll ts → endsAll ts ≤ mostEnds → length (bytesAll ts) + 2 * count ts ≤ (5 + groups) * endsAll ts
   all-length none formed few = omega arith
   all-length (more t ts) formed few =
       simp length-append (omega (arith, tree-length t (formed .0) (omega arith), all-length ts (formed .1) (omega arith)))
 
 -- "The longest tree has 190 bytes."
-pub longest : (t : Tree) → Within t → length (bytes t) ≤ 190
+pub longest-is : longestTree ≡ 190
+longest-is = refl
+
+pub longest : (t : Tree) → Within t → length (bytes t) ≤ longestTree
 longest t w = omega (arith, tree-length t (w .formed) (w .few))
 
--- one that has them: all ends of 6 bytes, each connective of two
-pub longest-met : (t : Tree) × Within t × (length (bytes t) ≡ 190)
+-- one that has them: all ends differences with the largest bound, each connective of two
+pub longest-met : (t : Tree) × Within t × (length (bytes t) ≡ longestTree)
 unfolding tall ends bytes endBytes groupsOf
 longest-met = (tall deepest, tall-within, refl)

@@ -12,7 +12,8 @@ use lib.IntN.{ℤ, pos, negsuc, natAbs}
 use lib.ListN.{length, length-append}
 use borrow.Table.Steps.{cases}
 use borrow.Author.Tests.{ltb-true, ltb-false, lt-ltb, le-ltb, le-leb, eq-eqb, ne-eqb}
-use Rattle.condition.specs.Limits.{mostEnds, lastBoolean, lastNumber, largestBound, groups}
+use Rattle.condition.specs.Answers as answers
+use Rattle.condition.specs.Limits.{mostEnds, lastBoolean, lastNumber, largestBound, lastTag, groups, groupSize}
 use Rattle.condition.specs.Meaning.{End, is, isNot, atMost, above, Join, all, any, Tree, plain, leaf, join, Forest, none, more}
 use Rattle.condition.specs.Meaning.{ends, endsAll, count, EndWithin, Formed, FormedAll}
 use Rattle.condition.specs.Bytes.{groupsOf, number, written, endBytes, plainTag, bytes, bytesAll}
@@ -33,33 +34,33 @@ not-refused n first at h =
     (λ e. rw (ne-eqb n 0 (omega (arith, h (ltb-true first at e)))))
     (λ e. rw (e, and-false))
 
-another-group : (g n : ℕ) → 128 ≤ n → n < 128 ^ suc g → 1 ≤ g
+another-group : (g n : ℕ) → groupSize ≤ n → n < groupSize ^ suc g → 1 ≤ g
 another-group zero n h fits = absurd (omega arith)
 another-group (suc g) n h fits = omega arith
 
 -- the byte 00 ends a number only where it stands alone
-pub number-read : (g first n : ℕ) (l : List ℕ) (at : ℕ) → 1 ≤ g → n < 128 ^ g → (first < at → 1 ≤ n) →
+pub number-read : (g first n : ℕ) (l : List ℕ) (at : ℕ) → 1 ≤ g → n < groupSize ^ g → (first < at → 1 ≤ n) →
     numberFrom g first (groupsOf g n ++ l) at ≡ got n l (at + length (groupsOf g n))
 unfolding numberFrom groupsOf
 number-read zero first n l at some fits shortest = absurd (omega arith)
 number-read (suc g) first n l at some fits shortest =
-    cases (ltb n 128)
+    cases (ltb n groupSize)
     (λ e. simp (e, not-refused n first at shortest))
     (λ e.
-    let long = ltb-false n 128 e in
-    let fits' : n < 128 * 128 ^ g = rw pow-succ' at fits in
-    let rest = number-read g first (n / 128) l (at + 1) (another-group g n long fits) (omega arith) (omega arith) in
-    rw (e, le-ltb (128 + n % 128) 128 (omega arith), rest) (same-got (omega arith) (omega arith)))
+    let long = ltb-false n groupSize e in
+    let fits' : n < groupSize * groupSize ^ g = rw pow-succ' at fits in
+    let rest = number-read g first (n / groupSize) l (at + 1) (another-group g n long fits) (omega arith) (omega arith) in
+    rw (e, le-ltb (groupSize + n % groupSize) groupSize (omega arith), rest) (same-got (omega arith) (omega arith)))
 
 -- a number that is tested once it is read
-checked-read : (test : ℕ → Bool) (answer n : ℕ) → n < 128 ^ groups → test n ≡ true → Back (checked test answer) (number n) n
+checked-read : (test : ℕ → Bool) (answer n : ℕ) → n < groupSize ^ groups → test n ≡ true → Back (checked test answer) (number n) n
 checked-read test answer n fits passed l at = rw (number-read groups at n l at (omega arith) fits (omega arith), passed)
 
-pub upTo-read : (most answer n : ℕ) → (n ≤ most) × (most < 128 ^ groups) → Back (upTo most answer) (number n) n
+pub upTo-read : (most answer n : ℕ) → (n ≤ most) × (most < groupSize ^ groups) → Back (upTo most answer) (number n) n
 unfolding upTo
 upTo-read most answer n h = checked-read (λ n. leb n most) answer n (omega arith) (le-leb n most (h .0))
 
-pub count-read : (k : ℕ) → (2 ≤ k) × (k < 128 ^ groups) → Back readCount (number k) k
+pub count-read : (k : ℕ) → (2 ≤ k) × (k < groupSize ^ groups) → Back readCount (number k) k
 unfolding readCount
 count-read k h = checked-read (λ k. leb 2 k) 4 k (h .1) (le-leb 2 k (h .0))
 
@@ -74,7 +75,7 @@ bound-written (negsuc n) h = omega arith
 
 flag-read : (g p : ℕ) → g < 6 → p ≤ lastBoolean → Back (readEnd g) (number p) (flagEnd g p)
 unfolding readEnd
-flag-read g p h within l at = rw (lt-ltb g 6 h, upTo-read lastBoolean 5 p (omega arith))
+flag-read g p h within l at = rw (lt-ltb g 6 h, upTo-read lastBoolean answers.name p (omega arith))
 
 difference-read : (g x y : ℕ) (c : ℤ) → 6 ≤ g → (x ≤ lastNumber) × (y ≤ lastNumber) × (natAbs c ≤ largestBound) →
     Back (readEnd g) (number x ++ (number y ++ number (written c))) (boundEnd g x y c)
@@ -85,9 +86,9 @@ difference-read g x y c h within l at =
       le-ltb g 6 h,
       append-assoc,
       append-assoc,
-      upTo-read lastNumber 5 x (omega arith),
-      upTo-read lastNumber 5 y (omega arith),
-      upTo-read (2 * largestBound) 6 (written c) (omega arith),
+      upTo-read lastNumber answers.name x (omega arith),
+      upTo-read lastNumber answers.name y (omega arith),
+      upTo-read (2 * largestBound) answers.bound (written c) (omega arith),
       bound-back,
     )
     (same-got refl (simp length-append (omega arith)))
@@ -99,13 +100,13 @@ module _ (kids : ℕ → List ℕ → ℕ → Reading Forest) (others : ℕ) whe
 
   plain-read : (b : Bool) → Back node (number (plainTag b)) (plain b)
   unfolding readNode
-  plain-read true l at = rw (upTo-read 7 3 1 (omega arith))
-  plain-read false l at = rw (upTo-read 7 3 0 (omega arith))
+  plain-read true l at = rw (upTo-read lastTag answers.tag 1 (omega arith))
+  plain-read false l at = rw (upTo-read lastTag answers.tag 0 (omega arith))
 
-  tagged-read : (g : ℕ) (s : List ℕ) (e : End) → (4 ≤ g) × (g ≤ 7) → Back (readEnd g) s e → Back node (number g ++ s) (leaf e)
+  tagged-read : (g : ℕ) (s : List ℕ) (e : End) → (4 ≤ g) × (g ≤ lastTag) → Back (readEnd g) s e → Back node (number g ++ s) (leaf e)
   unfolding readNode
   tagged-read g s e h back l at =
-      rw (append-assoc, upTo-read 7 3 g (omega arith), le-ltb g 2 (omega arith), le-ltb g 4 (h .0), back)
+      rw (append-assoc, upTo-read lastTag answers.tag g (omega arith), le-ltb g 2 (omega arith), le-ltb g 4 (h .0), back)
       (same-got refl (simp length-append (omega arith)))
 
   pub end-read : (e : End) → EndWithin e → Back node (endBytes e) (leaf e)
@@ -122,7 +123,7 @@ module _ (kids : ℕ → List ℕ → ℕ → Reading Forest) (others : ℕ) whe
         rw (
           append-assoc,
           append-assoc,
-          upTo-read 7 3 g (omega arith),
+          upTo-read lastTag answers.tag g (omega arith),
           le-ltb g 2 (h .0),
           lt-ltb g 4 (h .1),
           count-read (count ts) (omega arith),

@@ -12,10 +12,11 @@ use lib.IntN.{natAbs}
 use lib.ListN.{length, length-append}
 use borrow.Table.Steps.{cases}
 use borrow.Author.Tests.{ltb-true, ltb-false, lt-ltb, le-ltb, leb-true, eqb-true, eqb-false}
-use Rattle.condition.specs.Limits.{mostEnds, lastBoolean, lastNumber, largestBound, groups}
+use Rattle.condition.specs.Answers as answers
+use Rattle.condition.specs.Limits.{mostEnds, lastBoolean, lastNumber, largestBound, lastTag, groups, groupSize}
 use Rattle.condition.specs.Meaning.{End, atMost, Tree, plain, join, Forest, ends, endsAll, count, EndWithin, Formed, FormedAll}
 use Rattle.condition.specs.Bytes.{Octets, groupsOf, number, written, endBytes, bytes, bytesAll}
-use Rattle.condition.specs.Reading.{Reading, numberFrom, checked, upTo, readCount, boundOf, flagEnd, boundEnd, readEnd}
+use Rattle.condition.specs.Reading.{Reading, numberFrom, checked, upTo, readBound, readName, readTag, readCount, boundOf, flagEnd, boundEnd, readEnd}
 use Rattle.condition.specs.Reading.{joinOf, readJoin, readNode, readAll, readTree}
 use Rattle.condition.proofs.Steps.{Yields, yields-then, yields-cond}
 
@@ -45,27 +46,27 @@ pub record WasWritten {A : Type 0} (Good : A → Type 0) (text : A → List ℕ)
 
 -- Numbers. g groups hold n, and it is not a 0 after another byte
 abbrev pub Shortest : (g first at n : ℕ) → Type 0
-Shortest g first at n = (n < 128 ^ g) × (first < at → 1 ≤ n)
+Shortest g first at n = (n < groupSize ^ g) × (first < at → 1 ≤ n)
 
-last-byte : (g first b : ℕ) (l : List ℕ) (at : ℕ) → Octets (b ∷ l) → b < 128 → (eqb b 0 && ltb first at) ≡ false →
+last-byte : (g first b : ℕ) (l : List ℕ) (at : ℕ) → Octets (b ∷ l) → b < groupSize → (eqb b 0 && ltb first at) ≡ false →
     WasWritten (Shortest (suc g) first at) (groupsOf (suc g)) (b ∷ l) at b l (at + 1)
 unfolding groupsOf
 last-byte g first b l at o low shortest =
     record {
       good = (
-        rw pow-succ' (omega (arith, one-le-pow g 128 (omega arith))),
+        rw pow-succ' (omega (arith, one-le-pow g groupSize (omega arith))),
         λ h. omega (arith, eqb-false b 0 (rw (lt-ltb first at h, and-true) at shortest)),
       );
-      took = rw (lt-ltb b 128 low) (took-one b l at o);
+      took = rw (lt-ltb b groupSize low) (took-one b l at o);
     }
 
-groups-more : (g b n : ℕ) → (128 ≤ b) × (b < 256) × (1 ≤ n) → groupsOf (suc g) (b - 128 + 128 * n) ≡ b ∷ groupsOf g n
+groups-more : (g b n : ℕ) → (groupSize ≤ b) × (b < 256) × (1 ≤ n) → groupsOf (suc g) (b - groupSize + groupSize * n) ≡ b ∷ groupsOf g n
 unfolding groupsOf
-groups-more g b n h = rw (le-ltb (b - 128 + 128 * n) 128 (omega arith)) (ap₂ (λ c m. c ∷ groupsOf g m) (omega arith) (omega arith))
+groups-more g b n h = rw (le-ltb (b - groupSize + groupSize * n) groupSize (omega arith)) (ap₂ (λ c m. c ∷ groupsOf g m) (omega arith) (omega arith))
 
-byte-before : (g first b : ℕ) (l : List ℕ) (at n : ℕ) (l' : List ℕ) (at' : ℕ) → first ≤ at → Octets (b ∷ l) → 128 ≤ b →
+byte-before : (g first b : ℕ) (l : List ℕ) (at n : ℕ) (l' : List ℕ) (at' : ℕ) → first ≤ at → Octets (b ∷ l) → groupSize ≤ b →
     WasWritten (Shortest g first (at + 1)) (groupsOf g) l (at + 1) n l' at' →
-    WasWritten (Shortest (suc g) first at) (groupsOf (suc g)) (b ∷ l) at (b - 128 + 128 * n) l' at'
+    WasWritten (Shortest (suc g) first at) (groupsOf (suc g)) (b ∷ l) at (b - groupSize + groupSize * n) l' at'
 unfolding Octets
 byte-before g first b l at n l' at' h o high w =
     let some = w .good .1 (omega arith) in
@@ -81,12 +82,12 @@ number-written zero first l at h o = tt
 number-written (suc g) first [] at h o = tt
 number-written (suc g) first (b ∷ l) at h o =
     let P = WasWritten (Shortest (suc g) first at) (groupsOf (suc g)) (b ∷ l) at in
-    yields-cond (ltb b 128) _ _ P
-    (λ e. yields-cond (eqb b 0 && ltb first at) _ _ P (λ q. tt) (λ q. last-byte g first b l at o (ltb-true b 128 e) q))
+    yields-cond (ltb b groupSize) _ _ P
+    (λ e. yields-cond (eqb b 0 && ltb first at) _ _ P (λ q. tt) (λ q. last-byte g first b l at o (ltb-true b groupSize e) q))
     (λ e. yields-then (numberFrom g first l (at + 1)) _ _ P (number-written g first l (at + 1) (omega arith) (o .1))
-    (λ n l' at' w. byte-before g first b l at n l' at' h o (ltb-false b 128 e) w))
+    (λ n l' at' w. byte-before g first b l at n l' at' h o (ltb-false b groupSize e) w))
 
-checked-written : (test : ℕ → Bool) (Good : ℕ → Type 0) → ((n : ℕ) → n < 128 ^ groups → test n ≡ true → Good n) →
+checked-written : (test : ℕ → Bool) (Good : ℕ → Type 0) → ((n : ℕ) → n < groupSize ^ groups → test n ≡ true → Good n) →
     (answer : ℕ) (l : List ℕ) (at : ℕ) → Octets l → Yields (checked test answer l at) (WasWritten Good number l at)
 checked-written test Good passed answer l at o =
     let P = WasWritten Good number l at in
@@ -98,10 +99,10 @@ pub upTo-written : (most answer : ℕ) (l : List ℕ) (at : ℕ) → Octets l �
 unfolding upTo
 upTo-written most answer l at o = checked-written (λ n. leb n most) (λ n. n ≤ most) (λ n fits. leb-true n most) answer l at o
 
-pub count-written : (l : List ℕ) (at : ℕ) → Octets l → Yields (readCount l at) (WasWritten (λ k. (2 ≤ k) × (k < 128 ^ groups)) number l at)
+pub count-written : (l : List ℕ) (at : ℕ) → Octets l → Yields (readCount l at) (WasWritten (λ k. (2 ≤ k) × (k < groupSize ^ groups)) number l at)
 unfolding readCount
 count-written l at o =
-    checked-written (λ k. leb 2 k) (λ k. (2 ≤ k) × (k < 128 ^ groups)) (λ k fits e. (leb-true 2 k e, fits)) 4 l at o
+    checked-written (λ k. leb 2 k) (λ k. (2 ≤ k) × (k < groupSize ^ groups)) (λ k fits e. (leb-true 2 k e, fits)) answers.count l at o
 
 -- Ends. Tags come in twos
 of-two : (P : ℕ → Type 0) (a g : ℕ) → (a ≤ g) × (g < a + 2) → P a → P (a + 1) → P g
@@ -144,16 +145,16 @@ module _ (g : ℕ) (l0 : List ℕ) (at0 : ℕ) (l : List ℕ) (at : ℕ) (tag : 
       WasWritten EndWithin endBytes l0 at0 e l' at'
   made-written e m took = record { good = m .within; took = rw (m .spelt) (took-again tag took) }
 
-  pub end-written : (4 ≤ g) × (g ≤ 7) → Yields (readEnd g l at) (WasWritten EndWithin endBytes l0 at0)
+  pub end-written : (4 ≤ g) × (g ≤ lastTag) → Yields (readEnd g l at) (WasWritten EndWithin endBytes l0 at0)
   unfolding readEnd
   end-written h =
       let P = WasWritten EndWithin endBytes l0 at0 in
       yields-cond (ltb g 6) _ _ P
-      (λ e. yields-then (upTo lastBoolean 5 l at) _ _ P (upTo-written lastBoolean 5 l at (tag .rest)) (λ p l1 at1 w1.
+      (λ e. yields-then (readName lastBoolean l at) _ _ P (upTo-written lastBoolean answers.name l at (tag .rest)) (λ p l1 at1 w1.
       made-written (flagEnd g p) (flag-made g p (h .0, ltb-true g 6 e) (w1 .good)) (w1 .took)))
-      (λ e. yields-then (upTo lastNumber 5 l at) _ _ P (upTo-written lastNumber 5 l at (tag .rest)) (λ x l1 at1 w1.
-      yields-then (upTo lastNumber 5 l1 at1) _ _ P (upTo-written lastNumber 5 l1 at1 (w1 .took .rest)) (λ y l2 at2 w2.
-      yields-then (upTo (2 * largestBound) 6 l2 at2) _ _ P (upTo-written (2 * largestBound) 6 l2 at2 (w2 .took .rest)) (λ w l3 at3 w3.
+      (λ e. yields-then (readName lastNumber l at) _ _ P (upTo-written lastNumber answers.name l at (tag .rest)) (λ x l1 at1 w1.
+      yields-then (readName lastNumber l1 at1) _ _ P (upTo-written lastNumber answers.name l1 at1 (w1 .took .rest)) (λ y l2 at2 w2.
+      yields-then (readBound l2 at2) _ _ P (upTo-written (2 * largestBound) answers.bound l2 at2 (w2 .took .rest)) (λ w l3 at3 w3.
       made-written (boundEnd g x y (boundOf w))
       (difference-made g x y w (ltb-false g 6 e, omega arith) (w1 .good, w2 .good, w3 .good))
       (took-again (w1 .took) (took-again (w2 .took) (w3 .took)))))))
@@ -199,7 +200,7 @@ module _ (kids : ℕ → List ℕ → ℕ → Reading Forest) (others : ℕ) (ki
   unfolding readNode Formed ends bytes
   node-written l at room o =
       let P = TreeWritten others l at in
-      yields-then (upTo 7 3 l at) _ _ P (upTo-written 7 3 l at o) (λ g l1 at1 w1.
+      yields-then (readTag l at) _ _ P (upTo-written lastTag answers.tag l at o) (λ g l1 at1 w1.
       yields-cond (ltb g 2) _ _ P
       (λ e. record { good = (tt, room); took = rw (plain-spelt g (ltb-true g 2 e)) (w1 .took) })
       (λ e. yields-cond (ltb g 4) _ _ P

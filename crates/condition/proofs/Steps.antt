@@ -8,7 +8,7 @@ use native.Mathlib.Omega.{arith}
 use lib.Dec.{ltb, leb, eqb}
 use lib.ListN.{length}
 use borrow.Author.Tests.{leb-true}
-use Rattle.condition.specs.Limits.{groups}
+use Rattle.condition.specs.Limits.{groups, groupSize}
 use Rattle.condition.specs.Reading.{Reading, got, refused, then, numberFrom, checked, upTo, readCount}
 
 -- what was read began at `at`, of the bytes l, and ended before `at'`, where the bytes l' begin
@@ -48,7 +48,7 @@ unfolding numberFrom
 number-moves zero first l at = tt
 number-moves (suc g) first [] at = tt
 number-moves (suc g) first (b ∷ l) at =
-    yields-cond (ltb b 128) _ _ (λ n. Moved (b ∷ l) at)
+    yields-cond (ltb b groupSize) _ _ (λ n. Moved (b ∷ l) at)
     (λ e. yields-cond (eqb b 0 && ltb first at) _ _ (λ n. Moved (b ∷ l) at) (λ q. tt) (λ q. one-on b l at))
     (λ e. yields-then (numberFrom g first l (at + 1)) _ (λ n. Moved l (at + 1)) (λ n. Moved (b ∷ l) at)
     (number-moves g first l (at + 1)) (λ n l' at' m. moved-again (one-on b l at) m))

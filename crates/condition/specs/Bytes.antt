@@ -4,7 +4,7 @@ use mathlib.Core.List.{List, [], _∷_, _++_}
 use mathlib.Core.Bool.{Bool, true, false, cond}
 use lib.Dec.{ltb}
 use lib.IntN.{ℤ, pos, negsuc}
-use Rattle.condition.specs.Limits.{groups}
+use Rattle.condition.specs.Limits.{groups, groupSize}
 use Rattle.condition.specs.Meaning.{End, is, isNot, atMost, above, Join, all, any, Tree, plain, leaf, join, Forest, none, more, count}
 
 -- A string of bytes
@@ -16,7 +16,7 @@ Octets (b ∷ l) = (b < 256) × Octets l
 -- of a number that g groups hold
 unfoldable pub groupsOf : ℕ → ℕ → List ℕ
 groupsOf zero n = []
-groupsOf (suc g) n = cond (ltb n 128) (n ∷ []) ((128 + n % 128) ∷ groupsOf g (n / 128))
+groupsOf (suc g) n = cond (ltb n groupSize) (n ∷ []) ((groupSize + n % groupSize) ∷ groupsOf g (n / groupSize))
 
 -- "All numbers, tags among them"
 abbrev pub number : ℕ → List ℕ

@@ -4,7 +4,8 @@ use Prim.Native.Nat.{ℕ, suc, _+_, _*_, _^_, _≤_, _<_}
 use mathlib.Core.Path.{_≡_}
 use mathlib.Core.List.{List, [], _∷_, _++_}
 use lib.ListN.{length, take, drop}
-use Rattle.condition.specs.Limits.{mostEnds, lastBoolean, lastNumber, largestBound, groups}
+use Rattle.condition.specs.Answers as answers
+use Rattle.condition.specs.Limits.{mostEnds, lastBoolean, lastNumber, largestBound, lastTag, groups, groupSize}
 use Rattle.condition.specs.Meaning.{End, Tree, EndWithin, Within}
 use Rattle.condition.specs.Bytes.{number, endBytes, bytes}
 
@@ -33,37 +34,37 @@ pub data Awaits : NodePart → List ℕ → Type 0 where
   -- "4, 5 | boolean name"
   boolean-next : {s : List ℕ} (g : ℕ) → Awaits tag s → (4 ≤ g) × (g ≤ 5) → Awaits (name lastBoolean) (s ++ number g)
   -- "6, 7 | x, y, c"
-  x-next : {s : List ℕ} (g : ℕ) → Awaits tag s → (6 ≤ g) × (g ≤ 7) → Awaits (name lastNumber) (s ++ number g)
-  y-next : {s : List ℕ} (g x : ℕ) → Awaits tag s → (6 ≤ g) × (g ≤ 7) → x ≤ lastNumber →
+  x-next : {s : List ℕ} (g : ℕ) → Awaits tag s → (6 ≤ g) × (g ≤ lastTag) → Awaits (name lastNumber) (s ++ number g)
+  y-next : {s : List ℕ} (g x : ℕ) → Awaits tag s → (6 ≤ g) × (g ≤ lastTag) → x ≤ lastNumber →
       Awaits (name lastNumber) (s ++ number g ++ number x)
-  c-next : {s : List ℕ} (g x y : ℕ) → Awaits tag s → (6 ≤ g) × (g ≤ 7) → (x ≤ lastNumber) × (y ≤ lastNumber) →
+  c-next : {s : List ℕ} (g x y : ℕ) → Awaits tag s → (6 ≤ g) × (g ≤ lastTag) → (x ≤ lastNumber) × (y ≤ lastNumber) →
       Awaits bound (s ++ number g ++ number x ++ number y)
 
 -- "a number's third byte has the top bit, or the form isn't shortest": "the last byte of a longer number isn't 00"
 pub data Malformed : List ℕ → Type 0 where
-  third-byte : {a b c : ℕ} {l : List ℕ} → (128 ≤ a) × (128 ≤ b) × (128 ≤ c) → Malformed (a ∷ b ∷ c ∷ l)
-  two-bytes : {a : ℕ} {l : List ℕ} → 128 ≤ a → Malformed (a ∷ 0 ∷ l)
-  three-bytes : {a b : ℕ} {l : List ℕ} → (128 ≤ a) × (128 ≤ b) → Malformed (a ∷ b ∷ 0 ∷ l)
+  third-byte : {a b c : ℕ} {l : List ℕ} → (groupSize ≤ a) × (groupSize ≤ b) × (groupSize ≤ c) → Malformed (a ∷ b ∷ c ∷ l)
+  two-bytes : {a : ℕ} {l : List ℕ} → groupSize ≤ a → Malformed (a ∷ 0 ∷ l)
+  three-bytes : {a b : ℕ} {l : List ℕ} → (groupSize ≤ a) × (groupSize ≤ b) → Malformed (a ∷ b ∷ 0 ∷ l)
 
 -- "groups of seven bits, [..] one to three bytes": a number that has a form
 abbrev pub Held : ℕ → Type 0
-Held n = n < 128 ^ groups
+Held n = n < groupSize ^ groups
 
 -- `Fault answer s l`: the bytes s are read, and at the first of the bytes l that follow stands what the answer says
 pub data Fault : ℕ → (s l : List ℕ) → Type 0 where
   -- 2, at "its first byte"
-  malformed : {s l : List ℕ} (part : NodePart) → Awaits part s → Malformed l → Fault 2 s l
+  malformed : {s l : List ℕ} (part : NodePart) → Awaits part s → Malformed l → Fault answers.form s l
   -- 3: "tag above 7", at "the tag"
-  high-tag : {s : List ℕ} (g : ℕ) (l : List ℕ) → Awaits tag s → Held g → 7 < g → Fault 3 s (number g ++ l)
+  high-tag : {s : List ℕ} (g : ℕ) (l : List ℕ) → Awaits tag s → Held g → lastTag < g → Fault answers.tag s (number g ++ l)
   -- 4: "child count 0 or 1", at "the count"
-  low-count : {s : List ℕ} (k : ℕ) (l : List ℕ) → Awaits childCount s → k ≤ 1 → Fault 4 s (number k ++ l)
+  low-count : {s : List ℕ} (k : ℕ) (l : List ℕ) → Awaits childCount s → k ≤ 1 → Fault answers.count s (number k ++ l)
   -- 5: "name too high", at "the name"
-  high-name : {s : List ℕ} (last x : ℕ) (l : List ℕ) → Awaits (name last) s → Held x → last < x → Fault 5 s (number x ++ l)
+  high-name : {s : List ℕ} (last x : ℕ) (l : List ℕ) → Awaits (name last) s → Held x → last < x → Fault answers.name s (number x ++ l)
   -- 6: "written c above 2,000,000", at "c"
-  high-bound : {s : List ℕ} (w : ℕ) (l : List ℕ) → Awaits bound s → Held w → 2 * largestBound < w → Fault 6 s (number w ++ l)
+  high-bound : {s : List ℕ} (w : ℕ) (l : List ℕ) → Awaits bound s → Held w → 2 * largestBound < w → Fault answers.bound s (number w ++ l)
   -- 7: "after a child count, ends read plus ends still owed exceed 24", at "the connective's tag"
   crowd : {s : List ℕ} {read owed : ℕ} (g k : ℕ) (l : List ℕ) → Begun s read (suc owed) → (2 ≤ g) × (g ≤ 3) → 2 ≤ k → Held k →
-      mostEnds < read + owed + k → Fault 7 s (number g ++ (number k ++ l))
+      mostEnds < read + owed + k → Fault answers.crowd s (number g ++ (number k ++ l))
 
 -- "A place in the bytes counts from 0, and a number's place is its first byte."
 pub record FaultAt (s : List ℕ) (answer place : ℕ) : Type 0 where

@@ -4,7 +4,8 @@ use mathlib.Core.List.{List, [], _∷_}
 use mathlib.Core.Bool.{Bool, cond, _&&_}
 use lib.Dec.{ltb, leb, eqb}
 use lib.IntN.{ℤ, pos, negsuc}
-use Rattle.condition.specs.Limits.{mostEnds, lastBoolean, lastNumber, largestBound, groups}
+use Rattle.condition.specs.Answers as answers
+use Rattle.condition.specs.Limits.{mostEnds, lastBoolean, lastNumber, largestBound, lastTag, groups, groupSize}
 use Rattle.condition.specs.Meaning.{End, is, isNot, atMost, above, Join, all, any, Tree, plain, leaf, join, Forest, none, more, ends}
 
 -- "the reading position goes in and comes back with each number": what was read, the bytes after it and the place of the first
@@ -20,11 +21,11 @@ then (refused n place) next = refused n place
 -- A number that began at `first` and of which g groups may still come. 1: "bytes end inside the tree"; 2: "a number's third byte
 -- has the top bit, or the form isn't shortest" ("the last byte of a longer number isn't 00"), at "its first byte"
 unfoldable pub numberFrom : ℕ → (first : ℕ) → List ℕ → ℕ → Reading ℕ
-numberFrom zero first l at = refused 2 first
-numberFrom (suc g) first [] at = refused 1 at
+numberFrom zero first l at = refused answers.form first
+numberFrom (suc g) first [] at = refused answers.ended at
 numberFrom (suc g) first (b ∷ l) at =
-    cond (ltb b 128) (cond (eqb b 0 && ltb first at) (refused 2 first) (got b l (at + 1)))
-    (then (numberFrom g first l (at + 1)) (λ n l' at'. got (b - 128 + 128 * n) l' at'))
+    cond (ltb b groupSize) (cond (eqb b 0 && ltb first at) (refused answers.form first) (got b l (at + 1)))
+    (then (numberFrom g first l (at + 1)) (λ n l' at'. got (b - groupSize + groupSize * n) l' at'))
 
 -- "each number being checked for 1 and 2 before its range": one that fails the test gives `answer`, at "its first byte"
 abbrev pub checked : (test : ℕ → Bool) → (answer : ℕ) → List ℕ → ℕ → Reading ℕ
@@ -36,19 +37,19 @@ upTo most = checked (λ n. leb n most)
 
 -- 3: "tag above 7"
 abbrev pub readTag : List ℕ → ℕ → Reading ℕ
-readTag = upTo 7 3
+readTag = upTo lastTag answers.tag
 
 -- 4: "child count 0 or 1"
 unfoldable pub readCount : List ℕ → ℕ → Reading ℕ
-readCount = checked (λ k. leb 2 k) 4
+readCount = checked (λ k. leb 2 k) answers.count
 
 -- 5: "name too high"
 abbrev pub readName : ℕ → List ℕ → ℕ → Reading ℕ
-readName last = upTo last 5
+readName last = upTo last answers.name
 
 -- 6: "written c above 2,000,000"
 abbrev pub readBound : List ℕ → ℕ → Reading ℕ
-readBound = upTo (2 * largestBound) 6
+readBound = upTo (2 * largestBound) answers.bound
 
 -- "c is written as 2c when c >= 0 and as -2c - 1 when c < 0"
 abbrev pub boundOf : ℕ → ℤ
@@ -77,7 +78,7 @@ joinOf g = cond (eqb g 2) all any
 unfoldable pub readJoin : (kids : ℕ → List ℕ → ℕ → Reading Forest) → (g place others : ℕ) → List ℕ → ℕ → Reading Tree
 readJoin kids g place others l at =
     then (readCount l at) (λ k l1 at1.
-    cond (ltb mostEnds (others + k)) (refused 7 place)
+    cond (ltb mostEnds (others + k)) (refused answers.crowd place)
     (then (kids k l1 at1) (λ ts l2 at2. got (join (joinOf g) ts) l2 at2)))
 
 -- A node by its tag, its children read by `kids`
@@ -98,7 +99,7 @@ readAll node (suc k) l at others =
 -- A tree of at most d connectives one inside the other. "at most 23 connectives, and a tree may nest 23 connectives deep": each adds
 -- an end or more to `others`, so from 24 on the first clause's children are never asked for
 unfoldable pub readTree : ℕ → List ℕ → (at others : ℕ) → Reading Tree
-readTree zero l at others = readNode (λ k l1 at1. refused 7 at) l at others
+readTree zero l at others = readNode (λ k l1 at1. refused answers.crowd at) l at others
 readTree (suc d) l at others = readNode (λ k l1 at1. readAll (readTree d) k l1 at1 others) l at others
 
 -- The whole input: its tree, or the first refusal from left to right. 8: "bytes follow the tree", at the "first of them"
@@ -108,7 +109,7 @@ pub data Read : Type 0 where
 
 abbrev pub whole : Reading Tree → Read
 whole (got t [] at) = tree t
-whole (got t (b ∷ l) at) = refusal 8 at
+whole (got t (b ∷ l) at) = refusal answers.after at
 whole (refused n place) = refusal n place
 
 unfoldable pub read : List ℕ → Read

@@ -6,6 +6,7 @@ use native.Mathlib.Omega.{arith}
 use native.Mathlib.Numerals.{add-one}
 use lib.ListN.{length, getD, length-drop, drop-of-length-le}
 use lib.Seq.{drop-cons}
+use Rattle.condition.specs.Limits.{groupSize}
 use Rattle.condition.proofs.Steps.{Moved, Stepped, upTo-steps, count-steps}
 use Rattle.condition.specs.Reading.{Reading, got, refused, then, upTo, readCount}
 use Rattle.cursor.specs.declared.Cursor.{Cursor}
@@ -41,7 +42,7 @@ module _ (s : List ℕ) (step : Step) (x : Reading ℕ) (is : said s step ≡ x)
 pub refusal-small : (g : ℕ) (step : Step) (why : Refusal) → step ≡ Refused why → Small g step
 refusal-small g step why e = rw e tt
 
-pub value-small : (g : ℕ) (step : Step) (n : ℕ) (c : Cursor) → step ≡ Value n c → Small g step → n < 128 ^ g
+pub value-small : (g : ℕ) (step : Step) (n : ℕ) (c : Cursor) → step ≡ Value n c → Small g step → n < groupSize ^ g
 value-small g step n c e h = rw e at h
 
 -- a value n read from `at` on, inside the bytes and in its range

@@ -2,22 +2,24 @@
 use Prim.Native.Nat.{ℕ, _<_, _^_}
 use mathlib.Core.List.{List}
 use lib.ListN.{drop}
+use Rattle.condition.specs.Answers as answers
+use Rattle.condition.specs.Limits.{groupSize}
 use Rattle.condition.specs.Reading.{Reading, got, refused}
 use Rattle.cursor.specs.declared.Refusal.{Refusal}
 use Rattle.cursor.specs.declared.Refusal.the-variants.{Ended, Form, Tag, Count, Name, Bound, Crowd, After}
 use Rattle.cursor.specs.declared.Step.{Step}
 use Rattle.cursor.specs.declared.Step.the-variants.{Value, Refused}
 
--- The table of document 01, rows 1 to 8
+-- which row of the table each is
 abbrev pub answerOf : Refusal → ℕ
-answerOf (Ended at) = 1
-answerOf (Form at) = 2
-answerOf (Tag at) = 3
-answerOf (Count at) = 4
-answerOf (Name at) = 5
-answerOf (Bound at) = 6
-answerOf (Crowd at) = 7
-answerOf (After at) = 8
+answerOf (Ended at) = answers.ended
+answerOf (Form at) = answers.form
+answerOf (Tag at) = answers.tag
+answerOf (Count at) = answers.count
+answerOf (Name at) = answers.name
+answerOf (Bound at) = answers.bound
+answerOf (Crowd at) = answers.crowd
+answerOf (After at) = answers.after
 
 abbrev pub placeOf : Refusal → ℕ
 placeOf (Ended at) = at
@@ -38,7 +40,7 @@ abbrev pub said : List ℕ → Step → Reading ℕ
 said s (Value n c) = got n (from s (c .at)) (c .at)
 said s (Refused why) = refused (answerOf why) (placeOf why)
 
--- a value of at most g groups is below 128 ^ g
+-- a value of at most g groups is below groupSize ^ g
 abbrev pub Small : ℕ → Step → Type 0
-Small g (Value n c) = n < 128 ^ g
+Small g (Value n c) = n < groupSize ^ g
 Small g (Refused why) = Unit {0}

@@ -13,12 +13,14 @@ use lib.ListN.{length}
 use borrow.Table.Steps.{cases}
 use borrow.Author.Tests.{ltb-true, ltb-false, lt-ltb, le-ltb, eq-eqb, ne-eqb}
 use Rattle.condition.specs.Limits.{lastNumber}
+use Rattle.condition.specs.Answers.{OfReading}
 use Rattle.condition.specs.Meaning.{Assignment, Tree, plain, holds, given}
 use Rattle.condition.specs.Bytes.{bytes}
 use Rattle.condition.specs.Reading.{Read, tree, refusal, read}
 use Rattle.condition.specs.Satisfying.{Satisfiable, InRange}
 use Rattle.condition.specs.Folding.{live}
 use Rattle.condition.specs.Sweep.{Answer, trimmed, needs}
+use Rattle.condition.proofs.Answers.{apart}
 use Rattle.condition.proofs.Reading.{read-written, written-read, refusals}
 use Rattle.condition.proofs.Critical.{lemma-4, lemma-5}
 use Rattle.condition.proofs.Trimmed.{needs-most, asked-is, finished-is, finished-stays, trimmed-means, trimmed-fewer, trimmed-ends}
@@ -33,8 +35,8 @@ use Rattle.travelring.specs.declared.Trimmed.{Trimmed}
 use Rattle.travelring.specs.declared.Trimmed.the-variants as trimmed-variants
 use Rattle.travelring.specs.Judging.{judgedTree, told, judged}
 use Rattle.travelring.specs.Finding.{toldFound, FindsTree, FindsRead, Finds}
-use Rattle.travelring.specs.Trimming.{Outcome, refuses, ended, fitted, outcomeRead, outcome, toldTrimmed, onto, Trims, endedBy}
-use Rattle.travelring.proofs.Outcomes.{by-read, too-long, fits, told-ended}
+use Rattle.travelring.specs.Trimming.{Outcome, refuses, ended, fitted, outcomeRead, outcome, toldTrimmed, lengthTold, onto, Trims, endedBy}
+use Rattle.travelring.proofs.Outcomes.{by-read, too-long, fits, told-ended, long-ended}
 use Rattle.demands.specs.Demands.{TrimCall, JudgeCall, FindCall, said, four, result, Room, TrimTable, JudgeTable, FindTable}
 use Rattle.demands.specs.Demands.{Demand1, Finished, Writes, finished, stopped, Written, Demand2, Demand3}
 use Rattle.demands.proofs.Finding.{find-answers}
@@ -58,9 +60,16 @@ table c =
 -- ---- every input has an answer
 
 trims-as : (s : List ℕ) (ration : ℕ) (before : List ℕ) (o : Outcome) → outcome s ration (length before) ≡ o → (r : Trimmed) →
-    toldTrimmed r ≡ o .said → (r : Trimmed) × (after : List ℕ) × Trims s ration before r after
-trims-as s ration before o e r h =
-    (r, onto (o .written) before, record { told = h ∙ ap (λ x. x .said) (sym e); lent = ap (λ x. onto (x .written) before) (sym e) })
+    toldTrimmed r ≡ o .said → lengthTold r ≡ length (o .written) → (r : Trimmed) × (after : List ℕ) × Trims s ration before r after
+trims-as s ration before o e r h l = (
+  r,
+  onto (o .written) before,
+  record {
+    told = h ∙ ap (λ x. x .said) (sym e);
+    long = l ∙ ap (λ x. length (x .written)) (sym e);
+    lent = ap (λ x. onto (x .written) before) (sym e);
+  },
+)
 
 trim-answers : (s : List ℕ) (ration : ℕ) (before : List ℕ) → (r : Trimmed) × (after : List ℕ) × Trims s ration before r after
 trim-answers s ration before = by (read s) refl
@@ -69,16 +78,17 @@ trim-answers s ration before = by (read s) refl
     by (refusal n p) e =
         let h = there n p (refusals s n p e) in
         trims-as s ration before (refuses n p) (by-read s ration (length before) (refusal n p) e) (trimmed-variants.Refused (refusalOf n p))
-        (simp (h .0, h .1))
+        (simp (h .0, h .1)) refl
     by (tree t) e =
         let a = trimmed t ration in
         let room = length before in
         let needed = length (bytes (a .tree)) in
         cases (ltb room needed)
         (λ q. trims-as s ration before _ (by-read s ration room (tree t) e ∙ too-long room a (ltb-true room needed q))
-        (trimmed-variants.Long needed) refl)
+        (trimmed-variants.Long needed) refl refl)
         (λ q. trims-as s ration before _ (by-read s ration room (tree t) e ∙ fits room a (ltb-false room needed q))
-        (endedBy (a .finished) (a .asked) (live (a .tree))) (told-ended a (a .finished) refl))
+        (endedBy (a .finished) (a .asked) (live (a .tree)) needed) (told-ended a (a .finished) needed refl)
+        (long-ended (a .finished) (a .asked) (live (a .tree)) needed))
 
 judged-unfit : (s : List ℕ) (flags : ℕ) (numbers : List ℤ) → (length numbers ≡ lastNumber → ⊥) →
     judged s flags numbers ≡ record { answer = 11; place = 0; value = false }
@@ -156,8 +166,8 @@ demand-1 = record {
 
 -- ---- demand 2: the call that writes
 
-not-refused : (n : ℕ) → (1 ≤ n) × (n ≤ 8) → (n ≡ 0 → ⊥) × (n ≡ 10 → ⊥)
-not-refused n h = (λ e. omega (arith, h .0), λ e. omega (arith, h .1))
+not-refused : (n : ℕ) → OfReading n → (n ≡ 0 → ⊥) × (n ≡ 10 → ⊥)
+not-refused n h = (apart h 0 refl, apart h 10 refl)
 
 -- no other number is 0 or 10
 other : (c : TrimCall) (n : ℕ) → said c .answer ≡ n → (n ≡ 0 → ⊥) × (n ≡ 10 → ⊥) → Writes c → ⊥

@@ -6,7 +6,7 @@ use mathlib.Core.Bool.{Bool, true, false, cond, true≢false}
 use native.Mathlib.Omega.{arith}
 use lib.IntN.{pos}
 use lib.ListN.{length, drop}
-use Rattle.condition.specs.Limits.{mostEnds}
+use Rattle.condition.specs.Limits.{mostEnds, longestTree}
 use Rattle.condition.specs.Meaning.{atMost, Tree, plain, leaf, holds, ends, Formed, Within}
 use Rattle.condition.specs.Bytes.{Octets, bytes}
 use Rattle.condition.specs.Reading.{tree, read}
@@ -30,7 +30,7 @@ writes : (c : TrimCall) (b : Bool) → said c .answer ≡ cond b 0 10 → Writes
 writes c true e = finished e
 writes c false e = stopped e
 
-refusing : (c : TrimCall) (t : Tree) → read (c .input) ≡ tree t → 190 ≤ length (c .before) → Writes c
+refusing : (c : TrimCall) (t : Tree) → read (c .input) ≡ tree t → longestTree ≤ length (c .before) → Writes c
 refusing c t e h =
     let within = trimmed-within t (c .ration) (read-written (c .input) t (c .octets) e .1) in
     let room : Room c t = omega (arith, longest (result c t) within) in

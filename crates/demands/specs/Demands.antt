@@ -8,6 +8,7 @@ use mathlib.Core.Bool.{Bool, true, false, cond}
 use lib.IntN.{ℤ}
 use lib.ListN.{length}
 use Rattle.condition.specs.Limits.{lastNumber}
+use Rattle.condition.specs.Answers.{OfReading}
 use Rattle.condition.specs.Meaning.{Assignment, Tree, plain, leaf, holds, negate, ends, given}
 use Rattle.condition.specs.Bytes.{Octets, bytes}
 use Rattle.condition.specs.Reading.{Read, tree, refusal, read}
@@ -19,9 +20,10 @@ use Rattle.condition.specs.Counting.{Sweeps}
 use Rattle.travelring.specs.declared.Judged.{Judged}
 use Rattle.travelring.specs.declared.Found.{Found}
 use Rattle.travelring.specs.declared.Trimmed.{Trimmed}
-use Rattle.travelring.specs.Judging.{Judgement, told, judged}
-use Rattle.travelring.specs.Finding.{Finding, toldFound, Finds}
-use Rattle.travelring.specs.Trimming.{Trimming, toldTrimmed, onto, Trims}
+use Rattle.travelring.specs.declared.Trimming.{Trimming}
+use Rattle.travelring.specs.Judging.{told, judged}
+use Rattle.travelring.specs.Finding.{toldFound, Finds}
+use Rattle.travelring.specs.Trimming.{toldTrimmed, onto, Trims}
 
 -- ---- a call that the contract allows: what went in, what came out, and what the lent memory held
 
@@ -109,7 +111,7 @@ pub record Demand1 : Type 0 where
   pub judge-answers : (s : List ℕ) (flags : ℕ) (numbers : List ℤ) → (r : Judged) × (told r ≡ judged s flags numbers)
   pub find-answers : (s : List ℕ) → Octets s → (before : List ℤ) → (r : Found) × (after : List ℤ) × Finds s before r after
   -- reading has a tree, or refuses with 1 to 8
-  pub reads : (s : List ℕ) (n p : ℕ) → read s ≡ refusal n p → (1 ≤ n) × (n ≤ 8)
+  pub reads : (s : List ℕ) (n p : ℕ) → read s ≡ refusal n p → OfReading n
   -- "from the table in document 01, the first that applies"
   pub trim-table : (c : TrimCall) → TrimTable c
   pub judge-table : (c : JudgeCall) → JudgeTable c

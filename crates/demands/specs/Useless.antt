@@ -3,6 +3,7 @@ use Prim.Native.Nat.{ℕ, _+_, _*_, _≤_, _<_, min}
 use mathlib.Core.Path.{_≡_}
 use mathlib.Core.Bool.{false}
 use lib.ListN.{length}
+use Rattle.condition.specs.Limits.{longestTree}
 use Rattle.condition.specs.Meaning.{Tree, plain}
 use Rattle.condition.specs.Bytes.{bytes}
 use Rattle.condition.specs.Reading.{tree, read}
@@ -15,8 +16,8 @@ use Rattle.demands.specs.Hex.{hex}
 use Rattle.demands.specs.Demands.{TrimCall, said, Room, Finished, Writes}
 
 pub record Useless : Type 0 where
-  -- "refusing everything (demand 1, exact refusals)": a tree that reads is not refused, where the output has the longest tree's 190 bytes
-  pub refusing-everything : (c : TrimCall) (t : Tree) → read (c .input) ≡ tree t → 190 ≤ length (c .before) → Writes c
+  -- "refusing everything (demand 1, exact refusals)": a tree that reads is not refused, where the output has the longest tree's bytes
+  pub refusing-everything : (c : TrimCall) (t : Tree) → read (c .input) ≡ tree t → longestTree ≤ length (c .before) → Writes c
   -- "always false [..] (demand 2, meaning [..])": false is not written for a tree that some assignment satisfies
   pub always-false : (c : TrimCall) → Writes c → (t : Tree) → read (c .input) ≡ tree t → Satisfiable t →
       c .after ≡ onto (bytes (plain false)) (c .before) → ⊥

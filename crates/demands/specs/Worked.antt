@@ -3,6 +3,7 @@ use Prim.Native.Nat.{ℕ}
 use Prim.Native.String.{String}
 use mathlib.Core.Path.{_≡_}
 use mathlib.Core.List.{List, [], _∷_}
+use Rattle.condition.specs.Limits.{longestTree}
 use Rattle.travelring.specs.Trimming.{outcome}
 use Rattle.demands.specs.Hex.{hex}
 
@@ -12,7 +13,7 @@ pub data Row : Type 0 where
 
 -- "The program takes [..] 190 bytes of output room."
 abbrev pub room : ℕ
-room = 190
+room = longestTree
 
 -- what trim answers and writes, exactly
 abbrev pub Kept : Row → Type 0

@@ -4,6 +4,7 @@
 use condition::FARTHEST;
 use condition::LARGEST_BOUND;
 use condition::LAST_NUMBER;
+use condition::Whole;
 ghost use mathlib.Core.Path.{_≡_};
 ghost use Prim.Native.Nat.{_+_, _-_, _*_, _≤_, _<_, min};
 ghost use lib.IntN.{pos, _-ℤ_};
@@ -97,10 +98,10 @@ pub fn add_above(t: &mut [Distance; CELLS], x: usize, y: usize, c: u32) -> bool
 }
 
 // Number i of the tightest assignment that meets the table.
-pub fn number(t: &[Distance; CELLS], i: usize) -> i32
+pub fn number(t: &[Distance; CELLS], i: usize) -> Whole
     requires { ⌜ Closed (now t) × (i ≤ lastNumber) ⌝ }
     ensures { λ r. ⌜ Shown (now (t .entry)) i r ⌝ }
 {
     let high = t[i * NUMBERS];
-    high as i32 - OFFSET as i32
+    high as Whole - OFFSET as Whole
 }

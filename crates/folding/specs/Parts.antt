@@ -5,6 +5,7 @@ use mathlib.Core.List.{List}
 use mathlib.Core.Bool.{Bool, true, false, cond}
 use lib.Dec.{eqb}
 use lib.ListN.{getD}
+use Rattle.condition.specs.Limits.{treeRoom}
 use Rattle.condition.specs.Meaning.{End, Tree, plain, leaf, join, Forest, none, more, count}
 use Rattle.condition.specs.Folding.{Left, decided, these, close, fold, foldAll, live, liveAll}
 use Rattle.nodes.specs.declared.Node.{Node}
@@ -31,9 +32,9 @@ kindOf (join j ts) = 2
 
 -- where a tree of at most `left` nodes may be folded: what is written stays behind what is read
 pub record Room (i left j room : ℕ) : Type 0 where
-  pub few : i + left ≤ 64
+  pub few : i + left ≤ treeRoom
   pub behind : j ≤ i
-  pub wide : 64 ≤ room
+  pub wide : treeRoom ≤ room
 
 -- the n nodes after j are moved one down
 pub record Slid (o₀ o : List ℕ) (j n : ℕ) : Type 0 where

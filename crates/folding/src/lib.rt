@@ -1,7 +1,7 @@
 // Folds a condition's nodes, with one end cut to a constant or none: a node function calls a children function which calls the node
 // function, nodes left falling. What is folded is written behind what is read. Where no tree is laid out the walk still ends.
+use condition::TREE_ROOM;
 use nodes::Node;
-use nodes::ROOM;
 use nodes::node_at;
 use nodes::put_node;
 use nodes::size_at;
@@ -9,6 +9,7 @@ ghost use mathlib.Core.Path.{_≡_};
 ghost use mathlib.Core.Bool.{cond};
 ghost use Prim.Native.Nat.{_+_, _-_, _≤_, _<_};
 ghost use lib.ListN.{length};
+ghost use Rattle.condition.specs.Limits.{treeRoom};
 ghost use Rattle.nodes.specs.Words.{nodeAt};
 ghost use Rattle.folding.specs.Folded.{Folded};
 ghost use Rattle.folding.specs.Parts.{Room, Slid, EndRight, ShutRight, NodeRight, ChildrenRight};
@@ -64,7 +65,7 @@ fn past(cut: usize) -> usize
 
 // Moves the n nodes after j one down.
 fn slide(out: &mut [u64], j: usize, n: usize)
-    requires { ⌜ (j + n + 1 ≤ length (now out)) × (j + n + 1 ≤ 64) ⌝ }
+    requires { ⌜ (j + n + 1 ≤ length (now out)) × (j + n + 1 ≤ treeRoom) ⌝ }
     ensures { λ _. ⌜ Slid (now (out .entry)) (now (out .exit)) j n ⌝ }
 {
     let mut k = 0;
@@ -89,7 +90,7 @@ fn end(n: Node, cut: usize, to: bool, out: &mut [u64], j: usize) -> Kid
 
 // A connective whose children that are left stand after j: a constant, the one child left, or the connective of those left.
 fn shut(all: bool, left: Kids, out: &mut [u64], j: usize) -> Kid
-    requires { ⌜ (j + left .size + 1 ≤ 64) × (left .count ≤ 64) × (64 ≤ length (now out)) ⌝ }
+    requires { ⌜ (j + left .size + 1 ≤ treeRoom) × (left .count ≤ treeRoom) × (treeRoom ≤ length (now out)) ⌝ }
     ensures { λ r. ⌜ ShutRight all left (now (out .entry)) (now (out .exit)) j r ⌝ }
 {
     let cut = left.cut;
@@ -176,10 +177,10 @@ fn children(
 pub fn fold(ns: &[u64], n: usize, cut: usize, to: bool, out: &mut [u64]) -> usize
     ensures { λ r. ⌜ Folded (nodeAt (now (ns .entry))) n cut to (length (now (out .entry))) (nodeAt (now (out .exit))) r ⌝ }
 {
-    if ROOM < n {
+    if TREE_ROOM < n {
         return 0;
     }
-    if out.len() < ROOM {
+    if out.len() < TREE_ROOM {
         return 0;
     }
     node(ns, 0, n, cut, to, out, 0).size

@@ -1,6 +1,9 @@
 // Judges a condition's nodes under an assignment: a node function calls a children function which calls the node function, nodes
 // left falling. Where no tree is laid out the answer means nothing, and the walk still ends.
 use condition::LARGEST_BOUND;
+use condition::LAST_BOOLEAN;
+use condition::QUESTION_ROOM;
+use condition::Whole;
 use nodes::Node;
 use nodes::node_at;
 use nodes::size_at;
@@ -10,23 +13,24 @@ ghost use mathlib.Core.Bool.{cond, not};
 ghost use Prim.Native.Nat.{ℕ, _+_, _^_, _≤_, _<_};
 ghost use lib.IntN.{ℤ, pos, _-ℤ_};
 ghost use lib.Signed.{mag};
+ghost use Rattle.condition.specs.Limits.{questionRoom};
 ghost use Rattle.condition.specs.Meaning.{value, is, atMost, met, joined, Tree, holds, given};
 ghost use Rattle.nodes.specs.Words.{nodeAt};
 ghost use Rattle.nodes.specs.Laid.{shifted, joinOf, nodes, Laid};
 ghost use Rattle.judging.specs.Judged.{Judged, JudgedAll};
 
-// Boolean p is the bit of weight 2^p: past the last of 32 bits there is none.
+// Boolean p is the bit of weight 2^p: past the last there is none.
 pub fn flag(flags: u32, p: u32) -> bool
     ensures { λ r. ⌜ ((numbers : List ℤ) → r ≡ met (is p) (given flags numbers)) ⌝ }
 {
-    if p < 32 {
+    if p <= LAST_BOOLEAN {
         return (flags >> p) % 2 == 1;
     }
     false
 }
 
 // Number 0 is always 0, and number x stands at x - 1.
-fn number(numbers: &[i32], x: u32) -> i64
+fn number(numbers: &[Whole], x: u32) -> i64
     ensures { λ r. ⌜ ((flags : ℕ) → r ≡ value (given flags (now (numbers .entry))) x) × (mag r < 2 ^ 31) ⌝ }
 {
     if x == 0 {
@@ -47,7 +51,7 @@ fn difference(a: u32, b: u32) -> i64
 }
 
 // x - y <= c, where c is kept as w.
-pub fn at_most(numbers: &[i32], x: u32, y: u32, w: u32) -> bool
+pub fn at_most(numbers: &[Whole], x: u32, y: u32, w: u32) -> bool
     ensures { λ r. ⌜ ((flags : ℕ) → r ≡ met (atMost x y (shifted w)) (given flags (now (numbers .entry)))) ⌝ }
 {
     let a = number(numbers, x);
@@ -71,8 +75,8 @@ pub fn both(all: bool, v: bool, u: bool) -> bool
 }
 
 // The tree at i, of at most `left` nodes. That i + left is small keeps every sum below from wrapping.
-fn node(ns: &[u64], i: usize, left: usize, flags: u32, numbers: &[i32]) -> bool
-    requires { ⌜ i + left ≤ 65535 ⌝ }
+fn node(ns: &[u64], i: usize, left: usize, flags: u32, numbers: &[Whole]) -> bool
+    requires { ⌜ i + left ≤ questionRoom ⌝ }
     ensures { λ r. ⌜ Judged (nodeAt (now (ns .entry))) i left (given flags (now (numbers .entry))) r ⌝ }
 {
     if left == 0 {
@@ -94,9 +98,9 @@ fn children(
     all: bool,
     k: u32,
     flags: u32,
-    numbers: &[i32],
+    numbers: &[Whole],
 ) -> bool
-    requires { ⌜ i + left ≤ 65535 ⌝ }
+    requires { ⌜ i + left ≤ questionRoom ⌝ }
     ensures { λ r. ⌜ JudgedAll (nodeAt (now (ns .entry))) i left (joinOf all) k (given flags (now (numbers .entry))) r ⌝ }
 {
     if k == 0 {
@@ -111,12 +115,12 @@ fn children(
     both(all, v, u)
 }
 
-// Whether the tree in the first n nodes is true under 32 boolean bits and 15 numbers for names 1 to 15, in order.
-pub fn judge(ns: &[u64], n: usize, flags: u32, numbers: &[i32]) -> bool
-    ensures { λ r. ⌜ ((t : Tree) → Laid t (nodeAt (now (ns .entry))) 0 → nodes t ≤ n → n < 65536
+// Whether the tree in the first n nodes is true under boolean bits and numbers for the names from 1 on, in order.
+pub fn judge(ns: &[u64], n: usize, flags: u32, numbers: &[Whole]) -> bool
+    ensures { λ r. ⌜ ((t : Tree) → Laid t (nodeAt (now (ns .entry))) 0 → nodes t ≤ n → n ≤ questionRoom
         → r ≡ holds t (given flags (now (numbers .entry)))) ⌝ }
 {
-    if 65535 < n {
+    if QUESTION_ROOM < n {
         return false;
     }
     node(ns, 0, n, flags, numbers)

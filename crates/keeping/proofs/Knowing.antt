@@ -13,7 +13,7 @@ use lib.Seq.{getD-set-other}
 use borrow.Rule.Slice.PartMut.{midOf, mid-len}
 use borrow.Table.Steps.{cases}
 use borrow.Author.Tests.{eqb-true, eqb-false}
-use Rattle.condition.specs.Limits.{lastNumber}
+use Rattle.condition.specs.Limits.{lastNumber, questionRoom}
 use Rattle.condition.specs.Meaning.{Assignment, End, met, joined, all, Tree, leaf, holds, negate}
 use Rattle.condition.specs.Critical.{endAt, critical}
 use Rattle.condition.specs.Deciding.{sat}
@@ -71,7 +71,7 @@ odd-side zero h = refl
 odd-side (suc zero) h = refl
 odd-side (suc (suc r)) h = absurd (omega arith)
 
-pub learned : {n : ℕ → Node} {size : ℕ} {a : Assignment} {m marks known known' : List ℕ} {ends : ℕ} → length m ≡ 64 →
+pub learned : {n : ℕ → Node} {size : ℕ} {a : Assignment} {m marks known known' : List ℕ} {ends : ℕ} → length m ≡ questionRoom →
     Tells n size a m ends marks → Notes marks ends known known' → Learns n size known known'
 learned {a = a} wide t n =
     record {
@@ -99,9 +99,9 @@ learns-more p r = record { long = r .long ∙ p .long; right = λ t l s near k. 
 
 -- the room for one more assignment's numbers
 pub fifteen : {bits : List ℕ} {numbers : List ℤ} {known : List ℕ} {many : ℕ} → Room bits numbers known many →
-    length (midOf (15 * many) (15 * many + 15 - 15 * many) numbers) ≡ lastNumber
+    length (midOf (lastNumber * many) (lastNumber * many + lastNumber - lastNumber * many) numbers) ≡ lastNumber
 fifteen {numbers = numbers} {many = many} r =
-    mid-len (15 * many) (15 * many + 15) numbers (omega (arith, r .few, r .numbers-long)) ∙ omega arith
+    mid-len (lastNumber * many) (lastNumber * many + lastNumber) numbers (omega (arith, r .few, r .numbers-long)) ∙ omega arith
 
 module _ {n : ℕ → Node} {size q many : ℕ} {known known' : List ℕ} (few : many < 32) (learns : Learns n size known known') where
   pub recalled : getD known' q 0 ≡ 1 → Replies n size q known false many known'

@@ -7,6 +7,7 @@ use mathlib.Core.Bool.{Bool, false}
 use lib.Dec.{eqb}
 use lib.IntN.{ℤ}
 use lib.ListN.{length, getD}
+use Rattle.condition.specs.Limits.{lastNumber, questionRoom}
 use Rattle.condition.specs.Meaning.{Tree, Within}
 use Rattle.condition.specs.Folding.{live}
 use Rattle.condition.specs.Deciding.{sat}
@@ -24,6 +25,14 @@ pub record Known (t : Tree) (known : List ℕ) : Type 0 where
 
 -- ---- what the code promises
 
+-- so many assignments are kept, and of so many questions it is known whether they are answered no: two about each end, of which a tree has
+-- no more than nodes
+abbrev pub kept : ℕ
+kept = 32
+
+abbrev pub questions : ℕ
+questions = 2 * questionRoom
+
 -- a question is known that was known, or that the mark of its end answers
 pub record Notes (marks : List ℕ) (ends : ℕ) (known known' : List ℕ) : Type 0 where
   pub long : length known' ≡ length known
@@ -31,16 +40,16 @@ pub record Notes (marks : List ℕ) (ends : ℕ) (known known' : List ℕ) : Typ
 
 pub record Learns (n : ℕ → Node) (size : ℕ) (known known' : List ℕ) : Type 0 where
   pub long : length known' ≡ length known
-  pub right : (t : Tree) → Laid t n 0 → nodes t ≡ size → size < 64 → Known t known → Known t known'
+  pub right : (t : Tree) → Laid t n 0 → nodes t ≡ size → size < questionRoom → Known t known → Known t known'
 
 -- the room there is, and that it holds `many` assignments and one more
 pub record Room (bits : List ℕ) (numbers : List ℤ) (known : List ℕ) (many : ℕ) : Type 0 where
-  pub bits-long : length bits ≡ 32
-  pub numbers-long : length numbers ≡ 480
-  pub known-long : length known ≡ 128
-  pub few : many < 32
+  pub bits-long : length bits ≡ kept
+  pub numbers-long : length numbers ≡ lastNumber * kept
+  pub known-long : length known ≡ questions
+  pub few : many < kept
 
 pub record Replies (n : ℕ → Node) (size q : ℕ) (known : List ℕ) (yes : Bool) (many : ℕ) (known' : List ℕ) : Type 0 where
-  pub few : many < 32
-  pub right : (t : Tree) → Laid t n 0 → nodes t ≡ size → size < 64 → Within t → q < 2 * live t → Known t known →
+  pub few : many < kept
+  pub right : (t : Tree) → Laid t n 0 → nodes t ≡ size → size < questionRoom → Within t → q < 2 * live t → Known t known →
       (yes ≡ answer sat (numbered t q)) × Known t known'

@@ -1,22 +1,24 @@
 // Keeps the assignments that searches found, and lets them answer later questions. One walk of the tree under an assignment answers no
 // to a question about each end that turns the root there; only a question that no kept assignment answers is searched. Whatever
 // assignments are kept, what they tell is right: nothing needs to be known of them.
-use nodes::ROOM;
+use condition::ASSIGNED;
+use condition::QUESTION_ROOM;
+use condition::Whole;
 use settling::Verdict;
 ghost use mathlib.Core.Path.{_≡_};
 ghost use Prim.Native.Nat.{suc, _*_, _%_, _≤_, _<_};
 ghost use lib.ListN.{length};
 ghost use Rattle.nodes.specs.Words.{nodeAt};
-ghost use Rattle.keeping.specs.Kept.{Notes, Learns, Room, Replies};
+ghost use Rattle.keeping.specs.Kept.{kept, questions, Notes, Learns, Room, Replies};
 
 // So many assignments are kept at most; one more takes the last one's place.
 pub const KEPT: usize = 32;
 
-// Their numbers, 15 each.
-pub const NUMBERS: usize = 15 * KEPT;
+// Their numbers.
+pub const KEPT_NUMBERS: usize = ASSIGNED * KEPT;
 
 // Two questions about each end, and a tree has no more ends than nodes.
-pub const QUESTIONS: usize = 2 * ROOM;
+pub const QUESTIONS: usize = 2 * QUESTION_ROOM;
 
 // The answer to a question, and what it leaves for the next: how many assignments are kept, and the first of them that the tree has not
 // been walked under.
@@ -48,11 +50,11 @@ fn note(marks: &[u8], ends: usize, known: &mut [u8])
 }
 
 // What one assignment tells of the tree in the first n nodes.
-fn learn(ns: &[u64], n: usize, flags: u32, numbers: &[i32], known: &mut [u8])
-    requires { ⌜ length (now known) ≡ 128 ⌝ }
+fn learn(ns: &[u64], n: usize, flags: u32, numbers: &[Whole], known: &mut [u8])
+    requires { ⌜ length (now known) ≡ questions ⌝ }
     ensures { λ _. ⌜ Learns (nodeAt (now (ns .entry))) n (now (known .entry)) (now (known .exit)) ⌝ }
 {
-    let mut marks = [0u8; ROOM];
+    let mut marks = [0u8; QUESTION_ROOM];
     let ends = turning::turn(ns, n, flags, numbers, &mut marks);
     note(&marks, ends, known);
 }
@@ -63,12 +65,12 @@ fn recall(
     n: usize,
     q: usize,
     bits: &[u32],
-    numbers: &[i32],
+    numbers: &[Whole],
     known: &mut [u8],
     many: usize,
     tried: usize,
 ) -> usize
-    requires { ⌜ (q < 128) × Room (now bits) (now numbers) (now known) many ⌝ }
+    requires { ⌜ (q < questions) × Room (now bits) (now numbers) (now known) many ⌝ }
     ensures { λ _. ⌜ Learns (nodeAt (now (ns .entry))) n (now (known .entry)) (now (known .exit)) ⌝ }
 {
     let mut k = tried;
@@ -76,8 +78,8 @@ fn recall(
         if known[q] != 0 {
             return k;
         }
-        let from = 15 * k;
-        let to = from + 15;
+        let from = ASSIGNED * k;
+        let to = from + ASSIGNED;
         learn(ns, n, bits[k], &numbers[from..to], known);
         k += 1;
     }
@@ -86,15 +88,15 @@ fn recall(
 
 // The place after the last kept assignment; if there is none left, the last one's.
 fn next(many: usize) -> usize
-    requires { ⌜ many < 32 ⌝ }
-    ensures { λ r. ⌜ r < 32 ⌝ }
+    requires { ⌜ many < kept ⌝ }
+    ensures { λ r. ⌜ r < kept ⌝ }
 {
     if many + 1 < KEPT { many + 1 } else { many }
 }
 
 // Before the first question nothing is kept.
 pub fn none() -> Reply
-    ensures { λ r. ⌜ r .many < 32 ⌝ }
+    ensures { λ r. ⌜ r .many < kept ⌝ }
 {
     Reply {
         yes: false,
@@ -110,11 +112,11 @@ pub fn answer(
     n: usize,
     q: usize,
     bits: &mut [u32],
-    numbers: &mut [i32],
+    numbers: &mut [Whole],
     known: &mut [u8],
     last: Reply,
 ) -> Reply
-    requires { ⌜ (q < 128) × Room (now bits) (now numbers) (now known) (last .many) ⌝ }
+    requires { ⌜ (q < questions) × Room (now bits) (now numbers) (now known) (last .many) ⌝ }
     ensures { λ r. ⌜ Replies (nodeAt (now (ns .entry))) n q (now (known .entry)) (r .yes) (r .many) (now (known .exit)) ⌝ }
 {
     let many = last.many;
@@ -126,8 +128,8 @@ pub fn answer(
             tried: tried,
         };
     }
-    let from = 15 * many;
-    let to = from + 15;
+    let from = ASSIGNED * many;
+    let to = from + ASSIGNED;
     let verdict = answering::answer(ns, n, q / 2, q % 2 == 1, &mut numbers[from..to]);
     let Verdict::Found(flags) = verdict else {
         return Reply {

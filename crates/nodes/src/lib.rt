@@ -4,10 +4,8 @@ ghost use mathlib.Core.Path.{_≡_};
 ghost use Prim.Native.Nat.{_+_, _≤_, _<_};
 ghost use mathlib.Core.Bool.{cond};
 ghost use lib.ListN.{getD, set};
+ghost use Rattle.condition.specs.Limits.{lastTag};
 ghost use Rattle.nodes.specs.Words.{packed, nodeOf, wordOf, nodeAt, opposed, sizeOf, countOf};
-
-// A tree of 24 ends has at most 47 nodes, a question about one of its ends at most one more.
-pub const ROOM: usize = 64;
 
 pub enum Node {
     Plain(bool),
@@ -15,7 +13,7 @@ pub enum Node {
     Join(bool, u32, u32),
     // a boolean, or (false) its negation
     Flag(bool, u32),
-    // x - y <= w - 1,000,000, or (false) its negation
+    // x - y <= w - LARGEST_BOUND, or (false) its negation
     Bound(bool, u32, u32, u32),
 }
 
@@ -27,7 +25,7 @@ fn pack(g: u64, a: u32, b: u32, c: u32) -> u64
 
 // A tag, or for a negated node the next.
 fn tag(first: u64, so: bool) -> u64
-    requires { ⌜ first < 8 ⌝ }
+    requires { ⌜ first ≤ lastTag ⌝ }
     ensures { λ r. ⌜ r ≡ cond so first (first + 1) ⌝ }
 {
     if so { first } else { first + 1 }

@@ -7,6 +7,7 @@ use lib.Dec.{eqb}
 use borrow.Author.Tests.{lt-ltb, le-ltb}
 use Rattle.condition.proofs.Naturals.{less, positive}
 use Rattle.condition.proofs.Steps.{Yields, yields-then}
+use Rattle.condition.specs.Answers as answers
 use Rattle.condition.specs.Limits.{mostEnds, lastBoolean, lastNumber}
 use Rattle.condition.specs.Meaning.{Tree, plain, leaf, join, Forest, none, more, count, ends}
 use Rattle.condition.specs.Reading.{Reading, got, refused, then, readTag, readCount, readName, readBound}
@@ -65,7 +66,7 @@ module _ (kids : Kids) (l : List ℕ) (at others : ℕ) where
       count-stop a p e = simp (eg, le-ltb _ _ h2, lt-ltb _ _ h4, e)
 
       module _ (k : ℕ) (l2 : List ℕ) (at2 : ℕ) (ek : readCount l1 at1 ≡ got k l2 at2) where
-        pub crowd-stop : mostEnds < others + k → readNode kids l at others ≡ refused 7 at
+        pub crowd-stop : mostEnds < others + k → readNode kids l at others ≡ refused answers.crowd at
         unfolding readNode readJoin
         crowd-stop h = simp (eg, le-ltb _ _ h2, lt-ltb _ _ h4, ek, lt-ltb _ _ h)
 

@@ -7,7 +7,7 @@ use native.Mathlib.Omega.{arith}
 use lib.Dec.{eqb}
 use lib.ListN.{length, set}
 use Rattle.condition.proofs.Steps.{Yields}
-use Rattle.condition.specs.Limits.{mostEnds, lastBoolean, lastNumber, largestBound}
+use Rattle.condition.specs.Limits.{mostEnds, lastBoolean, lastNumber, largestBound, lastTag}
 use Rattle.condition.specs.Meaning.{End, Tree, plain, leaf, join, Forest, none, more, count, ends, endsAll}
 use Rattle.condition.specs.Reading as reading
 use Rattle.condition.specs.Reading.{Reading, got, refused, then, readTag, readCount, readName}
@@ -144,7 +144,7 @@ module _ (ns₀ ns s : List ℕ) (at others i : ℕ) where
   node-stops r step why x e q says f =
       subst (NodeRight ns₀ ns s at others i) (sym (e ∙ ap stoppedBy q)) (stops-at why (λ kids. f kids (refusal-read s step x says why q)))
 
-  module _ (g : ℕ) (c1 : Cursor) (tag : Taken (λ n. n ≤ 7) s at (readTag (from s at) at) g c1) where
+  module _ (g : ℕ) (c1 : Cursor) (tag : Taken (λ n. n ≤ lastTag) s at (readTag (from s at) at) g c1) where
     pub node-plain : g < 2 → others + 1 ≤ mostEnds → i < length ns₀ → ns ≡ set ns₀ i (wordOf (node.Plain (eqb g 1))) →
         NodeRight ns₀ ns s at others i (part.Read (i + 1) c1 1)
     unfolding Laid nodes ends

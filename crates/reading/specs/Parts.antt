@@ -3,7 +3,7 @@ use Prim.Native.Nat.{ℕ, _+_, _*_, _≤_, _<_}
 use mathlib.Core.Path.{_≡_}
 use mathlib.Core.List.{List}
 use lib.ListN.{length}
-use Rattle.condition.specs.Limits.{mostEnds}
+use Rattle.condition.specs.Limits.{mostEnds, treeRoom}
 use Rattle.condition.specs.Meaning.{Tree, leaf, ends, endsAll}
 use Rattle.condition.specs.Reading.{Reading, got, refused, then, readEnd, readTree, readAll, Read, tree, refusal}
 use Rattle.cursor.specs.declared.Cursor.{Cursor}
@@ -54,7 +54,7 @@ pub record May (k : ℕ) (s : List ℕ) (at others i room : ℕ) : Type 0 where
   pub inside : at ≤ length s
   pub few : others + k ≤ mostEnds
   pub before : i + 1 ≤ 2 * others + k
-  pub wide : 64 ≤ room
+  pub wide : treeRoom ≤ room
 
 pub record EndRight (ns₀ ns s : List ℕ) (g at i : ℕ) (r : Part) : Type 0 where
   pub is : Shows Laid nodes ends s ns i r (then (readEnd g (from s at) at) (λ e l at'. got (leaf e) l at'))
@@ -70,7 +70,7 @@ pub record ChildrenRight (ns₀ ns s : List ℕ) (k at others i : ℕ) (r : Part
 
 -- the whole: the tree read stands from node 0 on, in n nodes; or the refusal with document 01's number and place
 abbrev pub Holds : List ℕ → Answer → Read → Type 0
-Holds ns (answer.Tree n) (tree t) = Laid t (nodeAt ns) 0 × (n ≡ nodes t) × (n < 64)
+Holds ns (answer.Tree n) (tree t) = Laid t (nodeAt ns) 0 × (n ≡ nodes t) × (n ≤ treeRoom)
 Holds ns (answer.Tree n) (refusal a p) = ⊥
 Holds ns (answer.Refused why) (tree t) = ⊥
 Holds ns (answer.Refused why) (refusal a p) = (a ≡ answerOf why) × (p ≡ placeOf why)

@@ -3,6 +3,8 @@ use condition::LARGEST_BOUND;
 use condition::LAST_BOOLEAN;
 use condition::LAST_NUMBER;
 use condition::MOST_ENDS;
+use condition::Numeral;
+use condition::TREE_ROOM;
 use cursor::Cursor;
 use cursor::Refusal;
 use cursor::Step;
@@ -30,7 +32,7 @@ pub enum Answer {
 
 // A condition in memory, its root at node 0, where it was read.
 pub struct Held {
-    pub nodes: [u64; 64],
+    pub nodes: [u64; TREE_ROOM],
     pub answer: Answer,
 }
 
@@ -44,8 +46,8 @@ fn stopped(step: Step) -> Part
     Part::Stopped(why)
 }
 
-// c + 1,000,000, for c as it is written.
-fn shift(w: u32) -> u32
+// c + LARGEST_BOUND, for c as it is written.
+fn shift(w: Numeral) -> u32
     requires { ⌜ w ≤ 2 * largestBound ⌝ }
     ensures { λ r. ⌜ shifted r ≡ boundOf w ⌝ }
 {
@@ -56,7 +58,7 @@ fn shift(w: u32) -> u32
 }
 
 // An end that is no constant, its tag g read, put at node i.
-fn end(s: &[u8], c: Cursor, g: u32, ns: &mut [u64], i: usize) -> Part
+fn end(s: &[u8], c: Cursor, g: Numeral, ns: &mut [u64], i: usize) -> Part
     requires { ⌜ (c .at ≤ length (now s)) × (i < length (now ns)) ⌝ }
     ensures { λ r. ⌜ EndRight (now (ns .entry)) (now (ns .exit)) (now (s .entry)) g (c .at) i r ⌝ }
 {
@@ -147,7 +149,7 @@ fn refused(part: Part) -> Answer
 pub fn read(s: &[u8]) -> Held
     ensures { λ r. ⌜ Holds (r .nodes) (r .answer) (readOf (now (s .entry))) ⌝ }
 {
-    let mut ns = [0u64; 64];
+    let mut ns = [0u64; TREE_ROOM];
     let part = node(s, Cursor { at: 0 }, 0, &mut ns, 0);
     let Part::Read(n, c, e) = part else {
         return Held {

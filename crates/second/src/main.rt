@@ -1,4 +1,4 @@
-// Tries assignments on what the program `worked` printed, and shares no code with the library. For each line it prints whether the
+// Tries assignments on what the program `lines` printed of each `trim`, and shares no code with the library. For each line it prints whether the
 // condition and the result agree under every assignment, how many of the ends are left, and whether each of these makes a difference.
 mod read;
 mod text;
@@ -132,7 +132,7 @@ fn check_trees(condition: Tree, result: Tree, finished: bool) {
     compare(condition, result, finished);
 }
 
-// Of the answers from 0 to 12, those that begin with 1 are 1, 10, 11 and 12.
+// 0 is finished and 10 stopped; every other number is a refusal.
 fn answer_of(word: &[u8]) -> Answer {
     let first = character(word, 0);
     let second = character(word, 1);
@@ -150,16 +150,17 @@ fn answer_of(word: &[u8]) -> Answer {
     }
 }
 
-// A line has a condition, ration and room, and after `=>` the answer, place, questions, ends and result.
+// A line has a verb, a condition, ration and room, and after `=>` the answer, place, questions, ends and result.
 fn check(line: &[u8]) {
-    let slash = find(line, 0, b'/');
-    let arrow = find(line, slash, b'>');
+    let start = word_after(line, 0);
+    let slash = find(line, start, b'/');
+    let arrow = find(line, 0, b'>');
     let answer = word_after(line, arrow);
     let place = word_after(line, answer);
     let questions = word_after(line, place);
     let ends = word_after(line, questions);
     let last = word_after(line, ends);
-    let condition = read_tree(&line[0..slash]);
+    let condition = read_tree(&line[start..slash]);
     let result = read_tree(&line[last..]);
     match answer_of(&line[answer..]) {
         Answer::Finished => check_trees(condition, result, true),

@@ -10,7 +10,7 @@ use lib.Dec.{eqb}
 use lib.IntN.{ℤ, pos}
 use lib.ListN.{length, getD, List·getD-eq-default}
 use borrow.Author.Tests.{eq-eqb, ne-eqb, eqb-true}
-use Rattle.condition.specs.Limits.{lastBoolean, lastNumber}
+use Rattle.condition.specs.Limits.{lastBoolean, lastNumber, questionRoom}
 use Rattle.condition.specs.Meaning.{Assignment, value, met, any, Tree, Forest, none, more, count, holds, each, given}
 use Rattle.condition.specs.Satisfying.{Satisfiable, Named, NamedAll}
 use Rattle.condition.proofs.Small.{small}
@@ -84,7 +84,7 @@ module _ (n : ℕ → Node) (o : List ℕ) (many : ℕ) (b t : List ℕ) (left :
       }
       by (u ∷ os) w = absurd (omega (arith, w .0))
 
-  pub guess-none : ((os : List Tree) → Waits os n o many → bulk os ≤ 64 → 3 * bulk os < left → ⊥) →
+  pub guess-none : ((os : List Tree) → Waits os n o many → bulk os ≤ questionRoom → 3 * bulk os < left → ⊥) →
       Guesses n o many b t left numbers Nothing numbers
   guess-none h = record { kept = λ e. refl; right = λ os w few time. absurd (h os w few time) }
 
@@ -93,7 +93,7 @@ module _ (n : ℕ → Node) (o : List ℕ) (many : ℕ) (b t : List ℕ) (left :
   unfolding Waits owed bulk nodes holds
   guess-any nz i k ei ek r numbers' h = record { kept = h .kept; right = λ os w few time. by os w few time }
     where
-      by : (os : List Tree) → Waits os n o many → bulk os ≤ 64 → 3 * bulk os < left → Answers (Done b t none os) r numbers'
+      by : (os : List Tree) → Waits os n o many → bulk os ≤ questionRoom → 3 * bulk os < left → Answers (Done b t none os) r numbers'
       by [] w few time = absurd (nz w)
       by (u ∷ os) w few time =
           let x = w .1 in
@@ -157,7 +157,7 @@ module _ (n : ℕ → Node) (i k : ℕ) (o : List ℕ) (many : ℕ) (b t : List 
   try-zero z = try-none (λ us os w e time some. let m = ap nodesAll (at-none us k e z) in omega arith)
 
   module _ (nz : k ≡ 0 → ⊥) (s : ℕ) (size : s ≡ sizeOf (n i)) where
-    pub try-far : 64 < i + s → Tries n i k o many b t left numbers Nothing numbers
+    pub try-far : questionRoom < i + s → Tries n i k o many b t left numbers Nothing numbers
     try-far far = try-none (λ us os w e time some.
         let f = at-more us n i k e nz (w .laid) in
         omega (arith, sized (f .t) n i (f .laid), f .total, w .near))
@@ -278,16 +278,16 @@ none-marked b z a = record { says = λ p so e. absurd (by so (getD b p 0) e (z p
     by false x e z = omega arith
 
 module _ (n : ℕ → Node) (size : ℕ) (numbers : List ℤ) where
-  pub find-none : (length numbers ≡ lastNumber → size ≤ 64 → ⊥) → Finds n size numbers Nothing numbers
+  pub find-none : (length numbers ≡ lastNumber → size ≤ questionRoom → ⊥) → Finds n size numbers Nothing numbers
   find-none h = record { kept = λ e. refl; right = λ z u l e few f. absurd (h z few) }
 
-  pub find-attempted : (o b t : List ℕ) (r : Verdict) (numbers' : List ℤ) → Attempts n 0 size o 0 b t 200 numbers r numbers' →
+  pub find-attempted : (o b t : List ℕ) (r : Verdict) (numbers' : List ℤ) → Attempts n 0 size o 0 b t (3 * questionRoom + 2) numbers r numbers' →
       Starts t → allZero b ≡ true → Finds n size numbers r numbers'
   unfolding holds bulk nodes owed Waits Laid Named
   find-attempted o b t r numbers' g st z = record { kept = g .kept; right = λ zn u l e few f. by u l e few f }
     where
       -- the whole tree, nothing settled and nothing waiting
-      by : (u : Tree) → Laid u n 0 → nodes u ≡ size → size ≤ 64 → Named u → Right u r numbers'
+      by : (u : Tree) → Laid u n 0 → nodes u ≡ size → size ≤ questionRoom → Named u → Right u r numbers'
       by u l e few f =
           shown r
           (g .right (more u none) [] (record {

@@ -8,6 +8,7 @@ use mathlib.Core.Bool.{Bool, true, false, _&&_}
 use native.Mathlib.Omega.{arith}
 use lib.ListN.{length, set, length-set}
 use lib.Seq.{getD-set-same, getD-set-other}
+use Rattle.condition.specs.Limits.{questionRoom}
 use Rattle.condition.specs.Meaning.{Assignment, all, any, Tree, join, Forest, none, more, holds, each}
 use Rattle.condition.specs.Satisfying.{Named, NamedAll}
 use Rattle.nodes.specs.declared.Node.{Node}
@@ -210,7 +211,7 @@ module _ (n : ℕ → Node) (i : ℕ) (o : List ℕ) (many : ℕ) (b t : List �
     stops = λ bad. differ bad;
   }
 
-  pub take-or : (v : Bool) (k s : ℕ) (o' : List ℕ) → n i ≡ node.Join v k s → v ≡ false → many < 64 → o' ≡ set o many i →
+  pub take-or : (v : Bool) (k s : ℕ) (o' : List ℕ) → n i ≡ node.Join v k s → v ≡ false → many < questionRoom → o' ≡ set o many i →
       Takes n i o many b t true (i + 1 + s) o' (many + 1) b t
   take-or v k s o' q y room put = record {
     on = omega arith;
@@ -222,7 +223,7 @@ module _ (n : ℕ → Node) (i : ℕ) (o : List ℕ) (many : ℕ) (b t : List �
     stops = λ bad. differ bad;
   }
 
-  pub take-full : 64 ≤ many → Takes n i o many b t false (i + 1) o many b t
+  pub take-full : questionRoom ≤ many → Takes n i o many b t false (i + 1) o many b t
   take-full full = record {
     on = omega arith;
     state = st;

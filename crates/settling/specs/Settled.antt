@@ -8,7 +8,7 @@ use mathlib.Core.Bool.{Bool, true, false, _&&_}
 use lib.Dec.{eqb}
 use lib.IntN.{ℤ, pos}
 use lib.ListN.{length, getD}
-use Rattle.condition.specs.Limits.{lastBoolean, lastNumber}
+use Rattle.condition.specs.Limits.{lastBoolean, booleans, lastNumber, questionRoom}
 use Rattle.condition.specs.Meaning.{Assignment, value, met, all, any, Tree, join, Forest, none, count, holds, each, EndWithin, given}
 use Rattle.condition.specs.Satisfying.{Satisfiable, InRange, Named, NamedAll}
 use Rattle.differences.specs.Table.{Meets, Closed, tightest}
@@ -33,8 +33,8 @@ pub record Knows (b t : List ℕ) (a : Assignment) : Type 0 where
   pub numbers : Meets t a
 
 pub record Marks (b : List ℕ) (so : Bool) (p : ℕ) (ok : Bool) (b' : List ℕ) : Type 0 where
-  pub size : length b ≡ 32 → length b' ≡ 32
-  pub meets : ok ≡ true → length b ≡ 32 → (a : Assignment) → Agrees b' a ↔ (Agrees b a × (met (flagEnd so p) a ≡ true))
+  pub size : length b ≡ booleans → length b' ≡ booleans
+  pub meets : ok ≡ true → length b ≡ booleans → (a : Assignment) → Agrees b' a ↔ (Agrees b a × (met (flagEnd so p) a ≡ true))
   pub none : ok ≡ false → EndWithin (flagEnd so p) → (a : Assignment) → Agrees b a → met (flagEnd so p) a ≡ true → ⊥
 
 pub record Bounds (t : List ℕ) (so : Bool) (x y w : ℕ) (ok : Bool) (t' : List ℕ) : Type 0 where
@@ -53,7 +53,7 @@ pub record Or (u : Tree) : Type 0 where
 -- and it stands from node i on
 pub record Stands (u : Tree) (n : ℕ → Node) (i : ℕ) : Type 0 where
   pub laid : Laid u n i
-  pub near : i + nodes u ≤ 64
+  pub near : i + nodes u ≤ questionRoom
 
 -- the `or`s os wait: the first of them stands where the top of the stack says
 unfoldable pub Waits : List Tree → (ℕ → Node) → List ℕ → ℕ → Type 0
@@ -70,8 +70,8 @@ bulk (u ∷ us) = nodes u + bulk us
 
 -- the stack and what is settled, as the search holds them
 pub record State (o b t : List ℕ) : Type 0 where
-  pub stack : length o ≡ 64
-  pub flags : length b ≡ 32
+  pub stack : length o ≡ questionRoom
+  pub flags : length b ≡ booleans
   pub closed : Closed t
 
 -- ---- what is still to be made true: the trees us, laid from node i on, and the `or`s os that wait
@@ -80,8 +80,8 @@ pub record Work (n : ℕ → Node) (i : ℕ) (us : Forest) (o : List ℕ) (many 
   pub laid : LaidAll us n i
   pub named : NamedAll us
   pub waits : Waits os n o many
-  pub near : i + nodesAll us ≤ 64
-  pub few : bulk os + nodesAll us ≤ 64
+  pub near : i + nodesAll us ≤ questionRoom
+  pub few : bulk os + nodesAll us ≤ questionRoom
 
 -- a agrees with what is settled and makes all that is left true
 pub record Done (b t : List ℕ) (us : Forest) (os : List Tree) (a : Assignment) : Type 0 where
@@ -139,7 +139,7 @@ pub record Chosen (b t : List ℕ) (us : Forest) (os : List Tree) (a : Assignmen
 pub record Guesses (n : ℕ → Node) (o : List ℕ) (many : ℕ) (b t : List ℕ) (left : ℕ) (numbers : List ℤ) (r : Verdict)
     (numbers' : List ℤ) : Type 0 where
   pub kept : r ≡ Nothing → numbers' ≡ numbers
-  pub right : (os : List Tree) → Waits os n o many → bulk os ≤ 64 → 3 * bulk os < left → Answers (Done b t none os) r numbers'
+  pub right : (os : List Tree) → Waits os n o many → bulk os ≤ questionRoom → 3 * bulk os < left → Answers (Done b t none os) r numbers'
 
 pub record Attempts (n : ℕ → Node) (from to : ℕ) (o : List ℕ) (many : ℕ) (b t : List ℕ) (left : ℕ) (numbers : List ℤ)
     (r : Verdict) (numbers' : List ℤ) : Type 0 where
@@ -161,4 +161,4 @@ Right u Nothing numbers = Satisfiable u → ⊥
 
 pub record Finds (n : ℕ → Node) (size : ℕ) (numbers : List ℤ) (r : Verdict) (numbers' : List ℤ) : Type 0 where
   pub kept : r ≡ Nothing → numbers' ≡ numbers
-  pub right : length numbers ≡ lastNumber → (u : Tree) → Laid u n 0 → nodes u ≡ size → size ≤ 64 → Named u → Right u r numbers'
+  pub right : length numbers ≡ lastNumber → (u : Tree) → Laid u n 0 → nodes u ≡ size → size ≤ questionRoom → Named u → Right u r numbers'

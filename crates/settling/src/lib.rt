@@ -1,7 +1,11 @@
 // Settles whether some assignment makes a condition true, and shows one: first all that needs no guess, then a guess at an `or`.
+use condition::ASSIGNED;
+use condition::BOOLEANS;
 use condition::LARGEST_BOUND;
 use condition::LAST_BOOLEAN;
 use condition::LAST_NUMBER;
+use condition::QUESTION_ROOM;
+use condition::Whole;
 use differences::CELLS;
 use differences::Distance;
 use nodes::Node;
@@ -13,7 +17,7 @@ ghost use Prim.Native.Nat.{_+_, _≤_, _<_};
 ghost use mathlib.Core.Bool.{cond};
 ghost use lib.Dec.{eqb};
 ghost use lib.ListN.{length};
-ghost use Rattle.condition.specs.Limits.{lastNumber};
+ghost use Rattle.condition.specs.Limits.{lastNumber, questionRoom};
 ghost use Rattle.differences.specs.Table.{Closed};
 ghost use Rattle.nodes.specs.Words.{nodeAt};
 ghost use Rattle.settling.specs.Settled.{side, Marks, Bounds, State, Takes, Settles, Bits, Shows, Guesses, Attempts, Tries, Finds};
@@ -23,6 +27,9 @@ pub enum Verdict {
     Found(u32),
     Nothing,
 }
+
+// So many calls suffice: three for each node, and two.
+const CALLS: usize = 3 * QUESTION_ROOM + 2;
 
 // After a node, or after several: whether nothing contradicts, the next node, and how many `or`s wait.
 struct Step(bool, usize, usize);
@@ -35,7 +42,7 @@ fn side(so: bool) -> u8
 }
 
 // Settles boolean p, unless it is settled the other way.
-fn mark(flags: &mut [u8; 32], so: bool, p: u32) -> bool
+fn mark(flags: &mut [u8; BOOLEANS], so: bool, p: u32) -> bool
     ensures { λ r. ⌜ Marks (now (flags .entry)) so p r (now (flags .exit)) ⌝ }
 {
     let q = p as usize;
@@ -49,7 +56,7 @@ fn mark(flags: &mut [u8; 32], so: bool, p: u32) -> bool
     true
 }
 
-// Settles x - y <= w - 1,000,000, or (false) its negation.
+// Settles x - y <= w - LARGEST_BOUND, or (false) its negation.
 fn bound(table: &mut [Distance; CELLS], so: bool, x: u32, y: u32, w: u32) -> bool
     requires { ⌜ Closed (now table) ⌝ }
     ensures { λ r. ⌜ Bounds (now (table .entry)) so x y w r (now (table .exit)) ⌝ }
@@ -73,12 +80,12 @@ fn bound(table: &mut [Distance; CELLS], so: bool, x: u32, y: u32, w: u32) -> boo
 fn take(
     ns: &[u64],
     i: usize,
-    ors: &mut [u8; 64],
+    ors: &mut [u8; QUESTION_ROOM],
     many: usize,
-    flags: &mut [u8; 32],
+    flags: &mut [u8; BOOLEANS],
     table: &mut [Distance; CELLS],
 ) -> Step
-    requires { ⌜ State (now ors) (now flags) (now table) × (i < 64) ⌝ }
+    requires { ⌜ State (now ors) (now flags) (now table) × (i < questionRoom) ⌝ }
     ensures { λ r. ⌜ Takes (nodeAt (now (ns .entry))) i (now (ors .entry)) many (now (flags .entry)) (now (table .entry))
         (r .0) (r .1) (now (ors .exit)) (r .2) (now (flags .exit)) (now (table .exit)) ⌝ }
 {
@@ -90,7 +97,7 @@ fn take(
             if all {
                 return Step(true, i + 1, many);
             }
-            if 64 <= many {
+            if QUESTION_ROOM <= many {
                 return Step(false, i + 1, many);
             }
             ors[many] = i as u8;
@@ -104,12 +111,12 @@ fn settle(
     ns: &[u64],
     from: usize,
     to: usize,
-    ors: &mut [u8; 64],
+    ors: &mut [u8; QUESTION_ROOM],
     waiting: usize,
-    flags: &mut [u8; 32],
+    flags: &mut [u8; BOOLEANS],
     table: &mut [Distance; CELLS],
 ) -> Step
-    requires { ⌜ State (now ors) (now flags) (now table) × (to ≤ 64) ⌝ }
+    requires { ⌜ State (now ors) (now flags) (now table) × (to ≤ questionRoom) ⌝ }
     ensures { λ r. ⌜ Settles (nodeAt (now (ns .entry))) from to (now (ors .entry)) waiting (now (flags .entry)) (now (table .entry))
         (r .0) (now (ors .exit)) (r .2) (now (flags .exit)) (now (table .exit)) ⌝ }
 {
@@ -127,11 +134,11 @@ fn settle(
 }
 
 // The boolean bits: boolean p is the bit of weight 2^p, and one that is not settled is false.
-fn bits(flags: &[u8; 32]) -> u32
+fn bits(flags: &[u8; BOOLEANS]) -> u32
     ensures { λ r. ⌜ Bits (now (flags .entry)) r ⌝ }
 {
     let mut r: u32 = 0;
-    let mut p: usize = 32;
+    let mut p: usize = BOOLEANS;
     while 0 < p {
         p -= 1;
         r = 2 * r + one(flags[p]);
@@ -145,13 +152,13 @@ fn one(b: u8) -> u32
     if b == 1 { 1 } else { 0 }
 }
 
-// The numbers that the table has, names 1 to 15 in order.
-fn show(table: &[Distance; CELLS], numbers: &mut [i32])
+// The numbers that the table has, in the order of their names.
+fn show(table: &[Distance; CELLS], numbers: &mut [Whole])
     requires { ⌜ Closed (now table) × (length (now numbers) ≡ lastNumber) ⌝ }
     ensures { λ _. ⌜ Shows (now (table .entry)) (now (numbers .exit)) ⌝ }
 {
     let mut i: usize = 0;
-    while i < LAST_NUMBER as usize {
+    while i < ASSIGNED {
         numbers[i] = differences::number(table, i + 1);
         i += 1;
     }
@@ -166,12 +173,12 @@ fn place(b: u8) -> usize
 // One child of each `or` that waits, under what is settled. `left` falls with each call and never runs out.
 fn guess(
     ns: &[u64],
-    ors: &[u8; 64],
+    ors: &[u8; QUESTION_ROOM],
     many: usize,
-    flags: &[u8; 32],
+    flags: &[u8; BOOLEANS],
     table: &[Distance; CELLS],
     left: usize,
-    numbers: &mut [i32],
+    numbers: &mut [Whole],
 ) -> Verdict
     requires { ⌜ State (now ors) (now flags) (now table) × (length (now numbers) ≡ lastNumber) ⌝ }
     ensures { λ r. ⌜ Guesses (nodeAt (now (ns .entry))) (now (ors .entry)) many (now (flags .entry)) (now (table .entry))
@@ -184,7 +191,7 @@ fn guess(
     if left == 0 {
         return Verdict::Nothing;
     }
-    if 64 < many {
+    if QUESTION_ROOM < many {
         return Verdict::Nothing;
     }
     let i = place(ors[many - 1]);
@@ -198,14 +205,14 @@ fn attempt(
     ns: &[u64],
     from: usize,
     to: usize,
-    ors: &[u8; 64],
+    ors: &[u8; QUESTION_ROOM],
     many: usize,
-    flags: &[u8; 32],
+    flags: &[u8; BOOLEANS],
     table: &[Distance; CELLS],
     left: usize,
-    numbers: &mut [i32],
+    numbers: &mut [Whole],
 ) -> Verdict
-    requires { ⌜ State (now ors) (now flags) (now table) × (length (now numbers) ≡ lastNumber) × (to ≤ 64) ⌝ }
+    requires { ⌜ State (now ors) (now flags) (now table) × (length (now numbers) ≡ lastNumber) × (to ≤ questionRoom) ⌝ }
     ensures { λ r. ⌜ Attempts (nodeAt (now (ns .entry))) from to (now (ors .entry)) many (now (flags .entry)) (now (table .entry))
         left (now (numbers .entry)) r (now (numbers .exit)) ⌝ }
 {
@@ -227,12 +234,12 @@ fn any(
     ns: &[u64],
     i: usize,
     k: u32,
-    ors: &[u8; 64],
+    ors: &[u8; QUESTION_ROOM],
     many: usize,
-    flags: &[u8; 32],
+    flags: &[u8; BOOLEANS],
     table: &[Distance; CELLS],
     left: usize,
-    numbers: &mut [i32],
+    numbers: &mut [Whole],
 ) -> Verdict
     requires { ⌜ State (now ors) (now flags) (now table) × (length (now numbers) ≡ lastNumber) ⌝ }
     ensures { λ r. ⌜ Tries (nodeAt (now (ns .entry))) i k (now (ors .entry)) many (now (flags .entry)) (now (table .entry))
@@ -244,11 +251,11 @@ fn any(
     if k == 0 {
         return Verdict::Nothing;
     }
-    if 64 <= i {
+    if QUESTION_ROOM <= i {
         return Verdict::Nothing;
     }
     let next = i + size_at(ns, i);
-    if 64 < next {
+    if QUESTION_ROOM < next {
         return Verdict::Nothing;
     }
     let verdict = attempt(ns, i, next, ors, many, flags, table, left - 1, numbers);
@@ -259,17 +266,17 @@ fn any(
 }
 
 // Whether some assignment makes the tree in the first n nodes true; if so, its numbers are written and its boolean bits returned.
-pub fn find(ns: &[u64], n: usize, numbers: &mut [i32]) -> Verdict
+pub fn find(ns: &[u64], n: usize, numbers: &mut [Whole]) -> Verdict
     ensures { λ r. ⌜ Finds (nodeAt (now (ns .entry))) n (now (numbers .entry)) r (now (numbers .exit)) ⌝ }
 {
-    if numbers.len() != LAST_NUMBER as usize {
+    if numbers.len() != ASSIGNED {
         return Verdict::Nothing;
     }
-    if 64 < n {
+    if QUESTION_ROOM < n {
         return Verdict::Nothing;
     }
-    let ors = [0u8; 64];
-    let flags = [0u8; 32];
+    let ors = [0u8; QUESTION_ROOM];
+    let flags = [0u8; BOOLEANS];
     let table = differences::start();
-    attempt(ns, 0, n, &ors, 0, &flags, &table, 200, numbers)
+    attempt(ns, 0, n, &ors, 0, &flags, &table, CALLS, numbers)
 }

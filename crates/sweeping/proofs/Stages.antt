@@ -13,6 +13,7 @@ use lib.IntN.{ℤ}
 use lib.ListN.{length, getD, replicate, length-replicate, getD-replicate, List·getD-eq-default}
 use borrow.Table.Steps.{cases}
 use borrow.Author.Tests.{eqb-true, eqb-false, leb-true, leb-false, eq-eqb, ne-eqb, le-leb, lt-leb}
+use Rattle.condition.specs.Limits.{treeRoom}
 use Rattle.condition.specs.Meaning.{Tree, plain, Within}
 use Rattle.condition.specs.Folding.{fold, live}
 use Rattle.condition.specs.Critical.{put}
@@ -25,7 +26,7 @@ use Rattle.nodes.specs.declared.Node.{Node}
 use Rattle.nodes.specs.Words.{nodeAt}
 use Rattle.nodes.specs.Laid.{nodes, Laid}
 use Rattle.asking.specs.Asked.{Lives}
-use Rattle.keeping.specs.Kept.{numbered, Known, Room, Replies}
+use Rattle.keeping.specs.Kept.{questions, numbered, Known, Room, Replies}
 use Rattle.folding.specs.Folded.{Folded}
 use Rattle.sweeping.specs.Swept.{Sweeps}
 
@@ -35,18 +36,18 @@ pub record At (t : Tree) (tree : List ℕ) (size end : ℕ) (known : List ℕ) (
   pub reached : Reached over (next sat) asked (start (fold t)) (numbered present q)
   pub laid : Laid present (nodeAt tree) 0
   pub sized : nodes present ≡ size
-  pub few : size < 64
+  pub few : size ≤ treeRoom
   pub limits : Within present
   pub ends : end ≡ 2 * live present
   pub knows : Known present known
 
 pub record Goes (n : ℕ → Node) (nodes₀ ration : ℕ) (tree : List ℕ) (size end : ℕ) (bits : List ℕ) (numbers : List ℤ) (known : List ℕ)
     (many q asked : ℕ) : Type 0 where
-  pub long : length tree ≡ 64
+  pub long : length tree ≡ treeRoom
   pub room : Room bits numbers known many
-  pub near : end ≤ 128
+  pub near : end ≤ questions
   pub within : asked ≤ ration
-  pub stands : (t : Tree) → Laid t n 0 → nodes t ≡ nodes₀ → nodes₀ < 64 → Within t → At t tree size end known q asked
+  pub stands : (t : Tree) → Laid t n 0 → nodes t ≡ nodes₀ → nodes₀ ≤ treeRoom → Within t → At t tree size end known q asked
 
 -- ---- questions by number
 
@@ -85,7 +86,7 @@ module _ {n : ℕ → Node} {k ration : ℕ} {tree : List ℕ} {size end : ℕ} 
     (goes : Goes n k ration tree size end bits numbers known many q asked) (less : asked < ration) (more : q < end) {v : Bool}
     {many' : ℕ} {known' : List ℕ} (replies : Replies (nodeAt tree) size q known v many' known') where
   right : {t : Tree} (a : At t tree size end known q asked) → (v ≡ answer sat (numbered (a .present) q)) × Known (a .present) known'
-  right a = replies .right (a .present) (a .laid) (a .sized) (a .few) (a .limits) (omega (arith, a .ends)) (a .knows)
+  right a = replies .right (a .present) (a .laid) (a .sized) (omega (arith, a .few)) (a .limits) (omega (arith, a .ends)) (a .knows)
 
   stepped : {t : Tree} (a : At t tree size end known q asked) {s : Stage} → next sat (numbered (a .present) q) ≡ s →
       Reached over (next sat) (asked + 1) (start (fold t)) s
@@ -119,11 +120,11 @@ module _ {n : ℕ → Node} {k ration : ℕ} {tree : List ℕ} {size end : ℕ} 
   }
 
 -- a tree just folded, at its first question
-module _ {tree : List ℕ} {size room r end : ℕ} {bits : List ℕ} {numbers : List ℤ} {known : List ℕ} {many : ℕ} (long : length tree ≡ 64)
-    (wide : 64 ≤ room) (lives : Lives (nodeAt tree) size r) (twice : end ≡ 2 * r) (blank : (t : Tree) → Known t known)
+module _ {tree : List ℕ} {size room r end : ℕ} {bits : List ℕ} {numbers : List ℤ} {known : List ℕ} {many : ℕ} (long : length tree ≡ treeRoom)
+    (wide : treeRoom ≤ room) (lives : Lives (nodeAt tree) size r) (twice : end ≡ 2 * r) (blank : (t : Tree) → Known t known)
     (held : Room bits numbers known many) where
   anew : {t : Tree} (u : Tree) (asked : ℕ) → Reached over (next sat) asked (start (fold t)) (start u) →
-      Laid u (nodeAt tree) 0 × (size ≡ nodes u) → size < 64 → Within u → At t tree size end known 0 asked
+      Laid u (nodeAt tree) 0 × (size ≡ nodes u) → size ≤ treeRoom → Within u → At t tree size end known 0 asked
   anew u asked reached g few limits = record {
     present = u;
     reached = reached;

@@ -1,17 +1,18 @@
 // Sweeps a condition: ends from left to right, question one before two; on the first yes the end is cut, the tree folded, and the sweep
 // starts again at the first end. A question is asked only while the ration has one left. A question that an assignment found earlier
 // answers is asked and counted like any other.
+use condition::TREE_ROOM;
+use condition::Whole;
 use keeping::KEPT;
-use keeping::NUMBERS;
+use keeping::KEPT_NUMBERS;
 use keeping::QUESTIONS;
 use keeping::answer;
-use nodes::ROOM;
 ghost use Rattle.nodes.specs.Words.{nodeAt};
 ghost use Rattle.sweeping.specs.Swept.{Sweeps};
 
 // The tree reached, in its first `size` nodes, the questions asked, and whether the work is finished.
 pub struct Swept {
-    pub tree: [u64; ROOM],
+    pub tree: [u64; TREE_ROOM],
     pub size: usize,
     pub asked: u32,
     pub finished: bool,
@@ -21,11 +22,11 @@ pub struct Swept {
 pub fn sweep(ns: &[u64], n: usize, ration: u32) -> Swept
     ensures { λ r. ⌜ Sweeps (nodeAt (now (ns .entry))) n ration (r .tree) (r .size) (r .asked) (r .finished) ⌝ }
 {
-    let mut tree = [0u64; ROOM];
+    let mut tree = [0u64; TREE_ROOM];
     let mut size = folding::fold(ns, n, 0, false, &mut tree);
     let mut end = 2 * asking::live(&tree, size);
     let mut bits = [0u32; KEPT];
-    let mut numbers = [0i32; NUMBERS];
+    let mut numbers: [Whole; KEPT_NUMBERS] = [0; KEPT_NUMBERS];
     let mut known = [0u8; QUESTIONS];
     let mut reply = keeping::none();
     let mut q: usize = 0;

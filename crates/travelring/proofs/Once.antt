@@ -2,43 +2,46 @@
 -- read back off its number, place and value, so what a contract fixes fixes the enum; and a tree that has a satisfying assignment
 -- cannot also have none.
 use Prim.Native.Nat.{ℕ}
-use mathlib.Core.Path.{_≡_, refl, sym, ap, _∙_}
+use mathlib.Core.Path.{_≡_, refl, sym, ap, ap₂, _∙_}
 use mathlib.Core.List.{List}
 use mathlib.Core.Bool.{cond}
-use native.Mathlib.Omega.{arith}
 use native.Mathlib.Decide.{ℕ-discrete}
 use lib.Dec.{eqb}
 use lib.IntN.{ℤ}
 use lib.ListN.{length}
 use borrow.Author.Tests.{ne-eqb}
+use Rattle.condition.specs.Answers as answers
 use Rattle.condition.specs.Limits.{lastNumber}
 use Rattle.condition.specs.Meaning.{Tree, given}
 use Rattle.condition.specs.Reading.{Read, tree, refusal, read}
-use Rattle.cursor.specs.Said.{answerOf}
+use Rattle.condition.proofs.Answers.{apart}
 use Rattle.cursor.proofs.Refusals.{refusalOf, back}
+use Rattle.travelring.specs.declared.Judgement.{Judgement}
 use Rattle.travelring.specs.declared.Judged.{Judged}
 use Rattle.travelring.specs.declared.Judged.the-variants as judged-variants
-use Rattle.travelring.specs.Judging.{Judgement, judged, told}
+use Rattle.travelring.specs.Judging.{judged, told}
+use Rattle.travelring.specs.declared.Finding.{Finding}
 use Rattle.travelring.specs.declared.Found.{Found}
 use Rattle.travelring.specs.declared.Found.the-variants as found
-use Rattle.travelring.specs.Finding.{Finding, toldFound, Refuses, FindsTree, FindsRead, Finds}
+use Rattle.travelring.specs.Finding.{toldFound, Refuses, FindsTree, FindsRead, Finds}
+use Rattle.travelring.specs.declared.Trimming.{Trimming}
 use Rattle.travelring.specs.declared.Trimmed.{Trimmed}
 use Rattle.travelring.specs.declared.Trimmed.the-variants as trimmed
-use Rattle.travelring.specs.Trimming.{Trimming, toldTrimmed, Trims}
+use Rattle.travelring.specs.Trimming.{toldTrimmed, lengthTold, Trims}
 
 -- ---- judge
 
 judgedOf : Judgement → Judged
 judgedOf j =
-    cond (eqb (j .answer) 0) (judged-variants.Value (j .value))
-    (cond (eqb (j .answer) 11) judged-variants.Unfit (judged-variants.Refused (refusalOf (j .answer) (j .place))))
+    cond (eqb (j .answer) answers.finished) (judged-variants.Value (j .value))
+    (cond (eqb (j .answer) answers.unfit) judged-variants.Unfit (judged-variants.Refused (refusalOf (j .answer) (j .place))))
 
 judged-back : (r : Judged) → judgedOf (told r) ≡ r
 unfolding judgedOf
 judged-back (judged-variants.Value b) = refl
 judged-back (judged-variants.Refused why) =
     let h = back why in
-    simp (ne-eqb (answerOf why) 0 (λ e. omega (arith, h .least)), ne-eqb (answerOf why) 11 (λ e. omega (arith, h .most)))
+    simp (ne-eqb _ answers.finished (apart (h .of) _ refl), ne-eqb _ answers.unfit (apart (h .of) _ refl))
     (ap judged-variants.Refused (h .same))
 judged-back judged-variants.Unfit = refl
 
@@ -51,9 +54,9 @@ judge-once s flags numbers r r' e e' = sym (judged-back r) ∙ ap judgedOf (e �
 
 foundOf : Finding → Found
 foundOf f =
-    cond (eqb (f .answer) 0) (found.Shown (f .flags))
-    (cond (eqb (f .answer) 12) found.Nothing
-    (cond (eqb (f .answer) 11) found.Unfit (found.Refused (refusalOf (f .answer) (f .place)))))
+    cond (eqb (f .answer) answers.finished) (found.Shown (f .flags))
+    (cond (eqb (f .answer) answers.nothing) found.Nothing
+    (cond (eqb (f .answer) answers.unfit) found.Unfit (found.Refused (refusalOf (f .answer) (f .place)))))
 
 found-back : (r : Found) → foundOf (toldFound r) ≡ r
 unfolding foundOf
@@ -62,9 +65,9 @@ found-back found.Nothing = refl
 found-back (found.Refused why) =
     let h = back why in
     simp (
-      ne-eqb (answerOf why) 0 (λ e. omega (arith, h .least)),
-      ne-eqb (answerOf why) 12 (λ e. omega (arith, h .most)),
-      ne-eqb (answerOf why) 11 (λ e. omega (arith, h .most)),
+      ne-eqb _ answers.finished (apart (h .of) _ refl),
+      ne-eqb _ answers.nothing (apart (h .of) _ refl),
+      ne-eqb _ answers.unfit (apart (h .of) _ refl),
     )
     (ap found.Refused (h .same))
 found-back found.Unfit = refl
@@ -73,7 +76,7 @@ found-back found.Unfit = refl
 pub record Alike (r : Found) (numbers : List ℤ) (r' : Found) (numbers' : List ℤ) : Type 0 where
   pub answer : toldFound r .answer ≡ toldFound r' .answer
   pub place : toldFound r .place ≡ toldFound r' .place
-  pub rest : (toldFound r .answer ≡ 0 → ⊥) → (r ≡ r') × (numbers ≡ numbers')
+  pub rest : (toldFound r .answer ≡ answers.finished → ⊥) → (r ≡ r') × (numbers ≡ numbers')
 
 refuses-alike : (n p : ℕ) (numbers : List ℤ) (r : Found) (numbers₁ : List ℤ) (r' : Found) (numbers₂ : List ℤ) →
     Refuses n p numbers r numbers₁ → Refuses n p numbers r' numbers₂ → Alike r numbers₁ r' numbers₂
@@ -111,27 +114,27 @@ pub find-once : (s : List ℕ) (numbers : List ℤ) (r : Found) (numbers₁ : Li
 find-once s numbers r numbers₁ r' numbers₂ h h' =
     elim (ℕ-discrete (length numbers) lastNumber) [
       | yes e ↦ read-alike (read s) numbers r numbers₁ r' numbers₂ (h .fit e) (h' .fit e)
-      | no ne ↦ refuses-alike 11 0 numbers r numbers₁ r' numbers₂ (h .unfit ne) (h' .unfit ne)
+      | no ne ↦ refuses-alike answers.unfit 0 numbers r numbers₁ r' numbers₂ (h .unfit ne) (h' .unfit ne)
     ]
 
 -- ---- trim
 
-trimmedOf : Trimming → Trimmed
-trimmedOf t =
-    cond (eqb (t .answer) 0) (trimmed.Finished (t .questions) (t .ends))
-    (cond (eqb (t .answer) 10) (trimmed.Stopped (t .questions) (t .ends))
-    (cond (eqb (t .answer) 9) (trimmed.Long (t .place)) (trimmed.Refused (refusalOf (t .answer) (t .place)))))
+trimmedOf : Trimming → ℕ → Trimmed
+trimmedOf t bytes =
+    cond (eqb (t .answer) answers.finished) (trimmed.Finished (t .questions) (t .ends) bytes)
+    (cond (eqb (t .answer) answers.stopped) (trimmed.Stopped (t .questions) (t .ends) bytes)
+    (cond (eqb (t .answer) answers.long) (trimmed.Long (t .place)) (trimmed.Refused (refusalOf (t .answer) (t .place)))))
 
-trimmed-back : (r : Trimmed) → trimmedOf (toldTrimmed r) ≡ r
+trimmed-back : (r : Trimmed) → trimmedOf (toldTrimmed r) (lengthTold r) ≡ r
 unfolding trimmedOf
-trimmed-back (trimmed.Finished asked ends) = refl
-trimmed-back (trimmed.Stopped asked ends) = refl
+trimmed-back (trimmed.Finished asked ends bytes) = refl
+trimmed-back (trimmed.Stopped asked ends bytes) = refl
 trimmed-back (trimmed.Refused why) =
     let h = back why in
     simp (
-      ne-eqb (answerOf why) 0 (λ e. omega (arith, h .least)),
-      ne-eqb (answerOf why) 10 (λ e. omega (arith, h .most)),
-      ne-eqb (answerOf why) 9 (λ e. omega (arith, h .most)),
+      ne-eqb _ answers.finished (apart (h .of) _ refl),
+      ne-eqb _ answers.stopped (apart (h .of) _ refl),
+      ne-eqb _ answers.long (apart (h .of) _ refl),
     )
     (ap trimmed.Refused (h .same))
 trimmed-back (trimmed.Long needed) = refl
@@ -139,5 +142,7 @@ trimmed-back (trimmed.Long needed) = refl
 -- trim's outcome is one, the lent output with it
 pub trim-once : (s : List ℕ) (ration : ℕ) (out : List ℕ) (r : Trimmed) (out₁ : List ℕ) (r' : Trimmed) (out₂ : List ℕ) →
     Trims s ration out r out₁ → Trims s ration out r' out₂ → (r ≡ r') × (out₁ ≡ out₂)
-trim-once s ration out r out₁ r' out₂ h h' =
-    (sym (trimmed-back r) ∙ ap trimmedOf (h .told ∙ sym (h' .told)) ∙ trimmed-back r', h .lent ∙ sym (h' .lent))
+trim-once s ration out r out₁ r' out₂ h h' = (
+  sym (trimmed-back r) ∙ ap₂ trimmedOf (h .told ∙ sym (h' .told)) (h .long ∙ sym (h' .long)) ∙ trimmed-back r',
+  h .lent ∙ sym (h' .lent),
+)

@@ -8,7 +8,7 @@ use native.Mathlib.Omega.{arith}
 use lib.IntN.{ℤ}
 use lib.ListN.{length, getD}
 use borrow.Author.Tests.{eq-eqb, ne-eqb}
-use Rattle.condition.specs.Limits.{lastNumber}
+use Rattle.condition.specs.Limits.{lastNumber, questionRoom}
 use Rattle.condition.specs.Meaning.{Tree, holds, given}
 use Rattle.condition.specs.Reading.{Read, tree, refusal, read}
 use Rattle.condition.proofs.Small.{formed-named}
@@ -49,7 +49,7 @@ module _ (s : List ℕ) (flags : ℕ) (numbers : List ℤ) where
         carried (refusal n p) h = simp (h .0, h .1)
 
     pub judge-values : (n : ℕ) (v : Bool) → a ≡ answer.Tree n →
-        ((t : Tree) → Laid t (nodeAt ns) 0 → nodes t ≤ n → n < 65536 → v ≡ holds t (given flags numbers)) →
+        ((t : Tree) → Laid t (nodeAt ns) 0 → nodes t ≤ n → n ≤ questionRoom → v ≡ holds t (given flags numbers)) →
         told (judged-variants.Value v) ≡ judged s flags numbers
     judge-values n v e f = by-tree (judged-variants.Value v) (valued (read s) (subst (λ x. Holds ns x (read s)) e held))
       where

@@ -5,6 +5,7 @@ use mathlib.Core.List.{List}
 use mathlib.Core.Bool.{true}
 use lib.IntN.{ℤ}
 use lib.ListN.{length}
+use Rattle.condition.specs.Answers as answers
 use Rattle.condition.specs.Limits.{lastNumber}
 use Rattle.condition.specs.Meaning.{Tree, holds, given}
 use Rattle.condition.specs.Reading.{Read, tree, refusal, read}
@@ -12,25 +13,24 @@ use Rattle.condition.specs.Satisfying.{Satisfiable, InRange}
 use Rattle.cursor.specs.Said.{answerOf, placeOf}
 use Rattle.settling.specs.declared.Verdict.{Verdict}
 use Rattle.settling.specs.declared.Verdict.the-variants as verdict
+use Rattle.travelring.specs.declared.Finding.{Finding}
 use Rattle.travelring.specs.declared.Found.{Found}
 use Rattle.travelring.specs.declared.Found.the-variants.{Shown, Nothing, Refused, Unfit}
 
--- an answer's number and place, and "32 boolean bits (0 in a refusal)"
-pub record Finding : Type 0 where
-  pub answer : ℕ
-  pub place : ℕ
-  pub flags : ℕ
+-- "returns 32 boolean bits (0 in a refusal)"
+abbrev pub finding : ℕ → ℕ → ℕ → Finding
+finding answer place flags = record { answer = answer; place = place; flags = flags }
 
 -- what the enum's cases say. 12: "no satisfying assignment (find)", at place 0
 abbrev pub toldFound : Found → Finding
-toldFound (Shown bits) = record { answer = 0; place = 0; flags = bits }
-toldFound Nothing = record { answer = 12; place = 0; flags = 0 }
-toldFound (Refused why) = record { answer = answerOf why; place = placeOf why; flags = 0 }
-toldFound Unfit = record { answer = 11; place = 0; flags = 0 }
+toldFound (Shown bits) = finding answers.finished 0 bits
+toldFound Nothing = finding answers.nothing 0 0
+toldFound (Refused why) = finding (answerOf why) (placeOf why) 0
+toldFound Unfit = finding answers.unfit 0 0
 
 -- a refusal: "All other answers write nothing to any buffer."
 pub record Refuses (answer place : ℕ) (numbers : List ℤ) (r : Found) (numbers' : List ℤ) : Type 0 where
-  pub told : toldFound r ≡ record { answer = answer; place = place; flags = 0 }
+  pub told : toldFound r ≡ finding answer place 0
   pub kept : numbers' ≡ numbers
 
 -- a tree: 0 with an assignment that satisfies it, "Each number it writes lies from -15,000,015 to 15,000,015", "Find's answer 0 fills its
@@ -48,7 +48,7 @@ FindsRead (refusal n p) = Refuses n p
 
 -- "11 comes first; then 1 to 8, [..]; then 12"
 pub record Finds (s : List ℕ) (numbers : List ℤ) (r : Found) (numbers' : List ℤ) : Type 0 where
-  pub unfit : (length numbers ≡ lastNumber → ⊥) → Refuses 11 0 numbers r numbers'
+  pub unfit : (length numbers ≡ lastNumber → ⊥) → Refuses answers.unfit 0 numbers r numbers'
   pub fit : length numbers ≡ lastNumber → FindsRead (read s) numbers r numbers'
 
 -- the search's verdict

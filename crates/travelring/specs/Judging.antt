@@ -5,32 +5,32 @@ use mathlib.Core.Bool.{Bool, false, cond}
 use lib.Dec.{eqb}
 use lib.IntN.{ℤ}
 use lib.ListN.{length}
+use Rattle.condition.specs.Answers as answers
 use Rattle.condition.specs.Limits.{lastNumber}
 use Rattle.condition.specs.Meaning.{Assignment, holds, given}
 use Rattle.condition.specs.Reading.{Read, tree, refusal, read}
 use Rattle.cursor.specs.Said.{answerOf, placeOf}
+use Rattle.travelring.specs.declared.Judgement.{Judgement}
 use Rattle.travelring.specs.declared.Judged.{Judged}
 use Rattle.travelring.specs.declared.Judged.the-variants.{Value, Refused, Unfit}
 
--- an answer's number and place, and "its answer 0 carries true or false, its refusals carry false"
-pub record Judgement : Type 0 where
-  pub answer : ℕ
-  pub place : ℕ
-  pub value : Bool
+-- "its answer 0 carries true or false, its refusals carry false"
+abbrev pub judgement : ℕ → ℕ → Bool → Judgement
+judgement answer place value = record { answer = answer; place = place; value = value }
 
--- 0: "judged", at place 0; 1 to 8 as reading answers
+-- 0: "judged", at place 0; or as reading answers
 abbrev pub judgedTree : Read → Assignment → Judgement
-judgedTree (tree t) a = record { answer = 0; place = 0; value = holds t a }
-judgedTree (refusal n p) a = record { answer = n; place = p; value = false }
+judgedTree (tree t) a = judgement answers.finished 0 (holds t a)
+judgedTree (refusal n p) a = judgement n p false
 
 -- 11: "assignment buffer isn't 15 numbers", at place 0; "11 comes first; then 1 to 8"
 unfoldable pub judged : List ℕ → ℕ → List ℤ → Judgement
 judged s flags numbers =
     cond (eqb (length numbers) lastNumber) (judgedTree (read s) (given flags numbers))
-    (record { answer = 11; place = 0; value = false })
+    (judgement answers.unfit 0 false)
 
 -- what the enum's cases say
 abbrev pub told : Judged → Judgement
-told (Value b) = record { answer = 0; place = 0; value = b }
-told (Refused why) = record { answer = answerOf why; place = placeOf why; value = false }
-told Unfit = record { answer = 11; place = 0; value = false }
+told (Value b) = judgement answers.finished 0 b
+told (Refused why) = judgement (answerOf why) (placeOf why) false
+told Unfit = judgement answers.unfit 0 false

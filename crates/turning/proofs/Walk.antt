@@ -9,6 +9,7 @@ use native.Mathlib.Omega.{arith}
 use lib.ListN.{length, getD}
 use mir.Syntax.{w64}
 use mir.Val.{Fits}
+use Rattle.condition.specs.Limits.{questionRoom}
 use Rattle.condition.specs.Meaning.{Assignment, End, is, atMost, met, joined, unit, Tree, leaf, Forest, none, more, count, holds, each}
 use Rattle.condition.specs.Folding.{live, liveAll}
 use borrow.Author.Tests.{lt-ltb}
@@ -189,11 +190,11 @@ module _ {n : ℕ → Node} {i left : ℕ} {b : Bool} {k : ℕ} {a : Assignment}
       }
 
   -- the next tree, of s nodes, has room
-  module _ {s : ℕ} (fits : s ≤ rest) (pre : (i + left ≤ 65535) × (at ≤ i) × (at + left ≤ length m)) where
+  module _ {s : ℕ} (fits : s ≤ rest) (pre : (i + left ≤ questionRoom) × (at ≤ i) × (at + left ≤ length m)) where
     pub shorter : {t : ℕ} → 2 * left + 1 ≡ t → 2 * s < t
     shorter h = omega (arith, walked .few)
 
-    pub node-room : (from + s ≤ 65535) × (at + e ≤ from) × (at + e + s ≤ length m₁)
+    pub node-room : (from + s ≤ questionRoom) × (at + e ≤ from) × (at + e + s ≤ length m₁)
     node-room = omega (arith, pre, walked .sum, walked .few, walked .long)
 
     pub from-fits : Fits w64 (from + s)
@@ -258,7 +259,7 @@ module _ {n : ℕ → Node} {i left : ℕ} {b : Bool} {k : ℕ} {a : Assignment}
 
 -- ---- the whole tree
 
-pub no-room : {n : ℕ → Node} {size : ℕ} {a : Assignment} {m : List ℕ} → (size < 65536 → size ≤ length m → ⊥) → Tells n size a m 0 m
+pub no-room : {n : ℕ → Node} {size : ℕ} {a : Assignment} {m : List ℕ} → (size ≤ questionRoom → size ≤ length m → ⊥) → Tells n size a m 0 m
 no-room h = record { few = omega arith; long = refl; right = λ t l few near room. absurd (h near room) }
 
 -- a tree alone is told of as itself

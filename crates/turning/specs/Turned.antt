@@ -4,6 +4,7 @@ use mathlib.Core.Path.{_≡_}
 use mathlib.Core.List.{List}
 use mathlib.Core.Bool.{Bool, true, cond}
 use lib.ListN.{length, getD}
+use Rattle.condition.specs.Limits.{questionRoom}
 use Rattle.condition.specs.Meaning.{Assignment, met, Join, Tree, plain, Forest, count, holds, each}
 use Rattle.condition.specs.Folding.{live, liveAll}
 use Rattle.condition.specs.Critical.{endAt, endIn, critical, criticalIn}
@@ -62,5 +63,5 @@ pub record TurnsAll (n : ℕ → Node) (i left : ℕ) (b : Bool) (k : ℕ) (a : 
 pub record Tells (n : ℕ → Node) (size : ℕ) (a : Assignment) (m : List ℕ) (ends : ℕ) (m' : List ℕ) : Type 0 where
   pub few : ends ≤ length m
   pub long : length m' ≡ length m
-  pub right : (t : Tree) → Laid t n 0 → nodes t ≤ size → size < 65536 → size ≤ length m →
+  pub right : (t : Tree) → Laid t n 0 → nodes t ≤ size → size ≤ questionRoom → size ≤ length m →
       (ends ≡ live t) × ((k : ℕ) → k < live t → getD m' k 0 ≡ tells t k a)

@@ -1,6 +1,8 @@
 // One walk of a condition's nodes under an assignment tells for every end at once whether turning that end turns the root, which is
 // whether the end's critical constraint holds there. A node function calls a children function which calls the node function, nodes left
 // falling. Where no tree is laid out the marks mean nothing, and the walk still ends.
+use condition::QUESTION_ROOM;
+use condition::Whole;
 use judging::at_most;
 use judging::both;
 use judging::flag;
@@ -11,6 +13,7 @@ use nodes::size_at;
 ghost use mathlib.Core.Path.{_≡_};
 ghost use Prim.Native.Nat.{_+_, _≤_, _<_};
 ghost use lib.ListN.{length};
+ghost use Rattle.condition.specs.Limits.{questionRoom};
 ghost use Rattle.condition.specs.Meaning.{given};
 ghost use Rattle.nodes.specs.Words.{nodeAt};
 ghost use Rattle.turning.specs.Turned.{side, Clears, Ends, Turns, TurnsAll, Tells};
@@ -59,11 +62,11 @@ fn node(
     i: usize,
     left: usize,
     flags: u32,
-    numbers: &[i32],
+    numbers: &[Whole],
     at: usize,
     marks: &mut [u8],
 ) -> Seen
-    requires { ⌜ (i + left ≤ 65535) × (at ≤ i) × (at + left ≤ length (now marks)) ⌝ }
+    requires { ⌜ (i + left ≤ questionRoom) × (at ≤ i) × (at + left ≤ length (now marks)) ⌝ }
     ensures { λ r. ⌜ Turns (nodeAt (now (ns .entry))) i left (given flags (now (numbers .entry))) at (now (marks .entry))
         (r .value) (r .ends) (now (marks .exit)) ⌝ }
 {
@@ -90,11 +93,11 @@ fn children(
     all: bool,
     k: u32,
     flags: u32,
-    numbers: &[i32],
+    numbers: &[Whole],
     at: usize,
     marks: &mut [u8],
 ) -> Seen
-    requires { ⌜ (i + left ≤ 65535) × (at ≤ i) × (at + left ≤ length (now marks)) ⌝ }
+    requires { ⌜ (i + left ≤ questionRoom) × (at ≤ i) × (at + left ≤ length (now marks)) ⌝ }
     ensures { λ r. ⌜ TurnsAll (nodeAt (now (ns .entry))) i left all k (given flags (now (numbers .entry))) at (now (marks .entry))
         (r .value) (r .ends) (now (marks .exit)) ⌝ }
 {
@@ -129,10 +132,10 @@ fn children(
 
 // Marks each end of the tree in the first n nodes, from the first mark on, and counts them. Without a mark for each node, nothing is
 // marked.
-pub fn turn(ns: &[u64], n: usize, flags: u32, numbers: &[i32], marks: &mut [u8]) -> usize
+pub fn turn(ns: &[u64], n: usize, flags: u32, numbers: &[Whole], marks: &mut [u8]) -> usize
     ensures { λ r. ⌜ Tells (nodeAt (now (ns .entry))) n (given flags (now (numbers .entry))) (now (marks .entry)) r (now (marks .exit)) ⌝ }
 {
-    if 65535 < n {
+    if QUESTION_ROOM < n {
         return 0;
     }
     if marks.len() < n {

@@ -1,15 +1,16 @@
 // Reads a typed line from left to right: a place goes in, and the place where the line goes on comes back.
-use condition::LAST_NUMBER;
-ghost use Prim.Native.Nat.{_≤_, _<_};
+use condition::ASSIGNED;
+use condition::LARGEST_WHOLE;
+use condition::Whole;
+ghost use Prim.Native.Nat.{_+_, _≤_, _<_};
 ghost use lib.ListN.{length};
+ghost use Rattle.condition.specs.Limits.{lastNumber, largestWhole};
 ghost use Rattle.typed.specs.Most.{AtMost};
 
 pub const MOST_BYTES: usize = 256;
 
-// The numbers that an assignment has; one more is read, so that the line can show what judge answers to too many.
-pub const FIT_NUMBERS: usize = LAST_NUMBER as usize;
-
-pub const MOST_NUMBERS: usize = FIT_NUMBERS + 1;
+// One number more than an assignment has, so that a line can show what judge answers to too many.
+pub const MOST_NUMBERS: usize = ASSIGNED + 1;
 
 // The largest u32: boolean bits, or a ration.
 pub const LARGEST_U32: usize = 4294967295;
@@ -22,7 +23,7 @@ pub enum Read {
 
 // The same of a signed number.
 enum Number {
-    Value(i32, usize),
+    Value(Whole, usize),
     Stuck(usize),
 }
 
@@ -39,6 +40,18 @@ pub fn line_end(text: &[u8], start: usize) -> usize
         at += 1;
     }
     at
+}
+
+// Where a line's first word ends: before its first space.
+pub fn word_end(line: &[u8]) -> usize
+    ensures { λ r. ⌜ r ≤ length (now (line .entry)) ⌝ }
+{
+    for i in 0..line.len() {
+        if line[i] == b' ' {
+            return i;
+        }
+    }
+    line.len()
 }
 
 // A heading is printed as it is.
@@ -78,12 +91,12 @@ fn hex_at(line: &[u8], at: usize) -> u8 {
     16
 }
 
-// The condition's bytes, up to the line's end or a `/`: how many there are. More than there is room for are not understood.
-pub fn read_tree(line: &[u8], tree: &mut [u8]) -> Read
+// The condition's bytes, from a place up to the line's end or a `/`: how many there are. More than there is room for are not understood.
+pub fn read_tree(line: &[u8], start: usize, tree: &mut [u8]) -> Read
     ensures { λ r. ⌜ AtMost (length (now (tree .entry))) r ⌝ }
 {
     let mut count = 0;
-    let mut at = skip_spaces(line, 0);
+    let mut at = skip_spaces(line, start);
     while at < line.len() {
         if line[at] == b'/' {
             return Read::Value(count, at);
@@ -166,14 +179,14 @@ pub fn read_part(line: &[u8], at: usize, most: usize) -> Read
     Read::Value(value, end)
 }
 
-fn signed(n: usize) -> i32
-    requires { ⌜ n ≤ 2147483647 ⌝ }
+fn signed(n: usize) -> Whole
+    requires { ⌜ n ≤ largestWhole ⌝ }
 {
-    n as i32
+    n as Whole
 }
 
 fn positive(size: Read) -> Number
-    requires { ⌜ AtMost 2147483647 size ⌝ }
+    requires { ⌜ AtMost largestWhole size ⌝ }
 {
     match size {
         Read::Value(n, next) => Number::Value(signed(n), next),
@@ -183,7 +196,7 @@ fn positive(size: Read) -> Number
 
 // -n is the complement of n - 1.
 fn negative(size: Read) -> Number
-    requires { ⌜ AtMost 2147483648 size ⌝ }
+    requires { ⌜ AtMost (largestWhole + 1) size ⌝ }
 {
     match size {
         Read::Value(n, next) => {
@@ -196,20 +209,20 @@ fn negative(size: Read) -> Number
     }
 }
 
-// A signed decimal within i32.
+// A signed decimal that is a whole number of an assignment.
 fn read_number(line: &[u8], at: usize) -> Number
     requires { ⌜ at < length (now line) ⌝ }
 {
     if line[at] == b'-' {
-        return negative(read_decimal(line, at + 1, 2147483648));
+        return negative(read_decimal(line, at + 1, LARGEST_WHOLE + 1));
     }
-    positive(read_decimal(line, at, 2147483647))
+    positive(read_decimal(line, at, LARGEST_WHOLE))
 }
 
-// The last word `..`, whose first point is read: after count numbers zeros follow, up to 15.
+// The last word `..`, whose first point is read: after count numbers zeros follow, up to as many as an assignment has.
 fn read_filling(line: &[u8], at: usize, count: usize) -> Read
-    requires { ⌜ count ≤ 16 ⌝ }
-    ensures { λ r. ⌜ AtMost 16 r ⌝ }
+    requires { ⌜ count ≤ lastNumber + 1 ⌝ }
+    ensures { λ r. ⌜ AtMost (lastNumber + 1) r ⌝ }
 {
     if line.len() <= at {
         return Read::Stuck(at);
@@ -221,20 +234,20 @@ fn read_filling(line: &[u8], at: usize, count: usize) -> Read
     if end < line.len() {
         return Read::Stuck(end);
     }
-    if count < FIT_NUMBERS {
-        return Read::Value(FIT_NUMBERS, end);
+    if count < ASSIGNED {
+        return Read::Value(ASSIGNED, end);
     }
     Read::Value(count, end)
 }
 
-// The numbers, which come as zeros, from where the boolean bits end: how many there are. At the line's end they are fifteen zeros,
+// The numbers, which come as zeros, from where the boolean bits end: how many there are. At the line's end they are all zeros,
 // else a `/` stands there.
-pub fn read_numbers(line: &[u8], start: usize, numbers: &mut [i32]) -> Read
-    requires { ⌜ 16 ≤ length (now numbers) ⌝ }
-    ensures { λ r. ⌜ AtMost 16 r ⌝ }
+pub fn read_numbers(line: &[u8], start: usize, numbers: &mut [Whole]) -> Read
+    requires { ⌜ lastNumber + 1 ≤ length (now numbers) ⌝ }
+    ensures { λ r. ⌜ AtMost (lastNumber + 1) r ⌝ }
 {
     if line.len() <= start {
-        return Read::Value(FIT_NUMBERS, start);
+        return Read::Value(ASSIGNED, start);
     }
     let mut count = 0;
     let mut at = skip_spaces(line, start + 1);

@@ -10,6 +10,7 @@ use lib.Seq.{take-all, drop-drop, take-at, drop-at}
 use borrow.Rule.Slice.PartMut.{midOf, putMid}
 use borrow.Table.Steps.{cases}
 use borrow.Author.Tests.{ltb-true, ltb-false, lt-ltb, le-ltb}
+use Rattle.condition.specs.Limits.{groupSize}
 use Rattle.condition.specs.Bytes.{groupsOf}
 use Rattle.writing.specs.Written.{Stands, Put}
 
@@ -79,24 +80,24 @@ unfolding groupsOf
 no-groups zero n z = refl
 no-groups (suc g) n z = absurd (omega arith)
 
-pub short-number : (g n : ℕ) → (g ≡ 0 → ⊥) → n < 128 → groupsOf g n ≡ n ∷ []
+pub short-number : (g n : ℕ) → (g ≡ 0 → ⊥) → n < groupSize → groupsOf g n ≡ n ∷ []
 unfolding groupsOf
 short-number zero n some h = absurd (some refl)
-short-number (suc g) n some h = rw (lt-ltb n 128 h)
+short-number (suc g) n some h = rw (lt-ltb n groupSize h)
 
 less : (g : ℕ) → suc g - 1 ≡ g
 less g = omega arith
 
-pub long-number : (g n : ℕ) → (g ≡ 0 → ⊥) → 128 ≤ n → groupsOf g n ≡ (128 + n % 128) ∷ groupsOf (g - 1) (n / 128)
+pub long-number : (g n : ℕ) → (g ≡ 0 → ⊥) → groupSize ≤ n → groupsOf g n ≡ (groupSize + n % groupSize) ∷ groupsOf (g - 1) (n / groupSize)
 unfolding groupsOf
 long-number zero n some h = absurd (some refl)
-long-number (suc g) n some h = rw (le-ltb n 128 h, less g)
+long-number (suc g) n some h = rw (le-ltb n groupSize h, less g)
 
 some-byte : (g n : ℕ) → (g ≡ 0 → ⊥) → 1 ≤ length (groupsOf g n)
 some-byte g n some =
-    cases (ltb n 128)
-    (λ e. rw (short-number g n some (ltb-true n 128 e)) (omega arith))
-    (λ e. rw (long-number g n some (ltb-false n 128 e)) (omega arith))
+    cases (ltb n groupSize)
+    (λ e. rw (short-number g n some (ltb-true n groupSize e)) (omega arith))
+    (λ e. rw (long-number g n some (ltb-false n groupSize e)) (omega arith))
 
 -- ---- with room for what was written
 
@@ -122,12 +123,12 @@ module _ (o : List ℕ) (g n : ℕ) where
     put-full z = record { room = omega arith; stands = no-room (omega (arith, some-byte g n some)) }
 
     module _ (held : length o ≡ 0 → ⊥) where
-      pub put-short : n < 128 → Put o (set o 0 n) (groupsOf g n) 1
+      pub put-short : n < groupSize → Put o (set o 0 n) (groupsOf g n) 1
       put-short h = record { room = omega arith; stands = rw (short-number g n some h) (one o n (omega arith)) }
 
-      pub put-long : (o₂ : List ℕ) (m b : ℕ) → 128 ≤ n → m ≡ length (set o 0 (128 + n % 128)) - 1
-          → Put (midOf 1 m (set o 0 (128 + n % 128))) o₂ (groupsOf (g - 1) (n / 128)) b
-          → Put o (putMid 1 m (set o 0 (128 + n % 128)) o₂) (groupsOf g n) (1 + b)
+      pub put-long : (o₂ : List ℕ) (m b : ℕ) → groupSize ≤ n → m ≡ length (set o 0 (groupSize + n % groupSize)) - 1
+          → Put (midOf 1 m (set o 0 (groupSize + n % groupSize))) o₂ (groupsOf (g - 1) (n / groupSize)) b
+          → Put o (putMid 1 m (set o 0 (groupSize + n % groupSize)) o₂) (groupsOf g n) (1 + b)
       put-long o₂ m b h whole rest =
           rw (long-number g n some h)
-          (put-then o _ o₂ ((128 + n % 128) ∷ []) _ 1 m b (length-set o 0 _) whole (put-one o _ (omega arith)) rest)
+          (put-then o _ o₂ ((groupSize + n % groupSize) ∷ []) _ 1 m b (length-set o 0 _) whole (put-one o _ (omega arith)) rest)

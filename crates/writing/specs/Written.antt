@@ -4,6 +4,7 @@ use Prim.Native.Nat.{ℕ, _≤_, _<_}
 use mathlib.Core.Path.{_≡_}
 use mathlib.Core.List.{List, _++_}
 use lib.ListN.{length, drop}
+use Rattle.condition.specs.Limits.{treeRoom}
 use Rattle.condition.specs.Meaning.{Tree, Forest, count}
 use Rattle.condition.specs.Bytes.{number, joinTag, plainTag, endBytes, bytes, bytesAll}
 use Rattle.nodes.specs.declared.Node.{Node}
@@ -36,9 +37,9 @@ pub record PutAll (n : ℕ → Node) (i left k : ℕ) (before after : List ℕ) 
   pub room : r ≤ length before
   pub trees : (ts : Forest) → LaidAll ts n i → count ts ≡ k → nodesAll ts ≤ left → Stands before after (bytesAll ts) r
 
--- the answer of `needed`: the length of the tree in the first k nodes. A tree within the limits has at most 47
+-- the answer of `needed`: the length of the tree in the first k nodes.
 pub record Needed (n : ℕ → Node) (k r : ℕ) : Type 0 where
-  pub tree : (t : Tree) → Laid t n 0 → nodes t ≡ k → k ≤ 64 → r ≡ length (bytes t)
+  pub tree : (t : Tree) → Laid t n 0 → nodes t ≡ k → k ≤ treeRoom → r ≡ length (bytes t)
 
 -- the answer and the output of `write`, for one tree: written whole or not at all
 pub record Wrote (t : Tree) (before after : List ℕ) (r : ℕ) : Type 0 where
@@ -48,4 +49,4 @@ pub record Wrote (t : Tree) (before after : List ℕ) (r : ℕ) : Type 0 where
 
 -- and for the tree in the first k nodes
 pub record Written (n : ℕ → Node) (k : ℕ) (before after : List ℕ) (r : ℕ) : Type 0 where
-  pub tree : (t : Tree) → Laid t n 0 → nodes t ≡ k → k ≤ 64 → Wrote t before after r
+  pub tree : (t : Tree) → Laid t n 0 → nodes t ≡ k → k ≤ treeRoom → Wrote t before after r

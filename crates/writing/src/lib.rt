@@ -1,22 +1,29 @@
 // Writes a condition's nodes as bytes: "each child into the room after its elder sibling". A node function writes a node's own bytes and
 // lends the rest of the output to a children function, which calls the node function; nodes left fall. Where no tree is laid out the
 // bytes mean nothing, and the walk still ends within the output.
+use condition::GROUP_SIZE;
 use condition::GROUPS;
 use condition::LARGEST_BOUND;
+use condition::TREE_ROOM;
 use nodes::Node;
-use nodes::ROOM;
 use nodes::count_at;
 use nodes::node_at;
 use nodes::size_at;
 ghost use mathlib.Core.Path.{_≡_};
 ghost use mathlib.Core.List.{_++_};
 ghost use mathlib.Core.Bool.{cond};
-ghost use Prim.Native.Nat.{_+_, _≤_, _<_};
+ghost use Prim.Native.Nat.{_+_, _*_, _≤_};
 ghost use lib.ListN.{length};
+ghost use Rattle.condition.specs.Limits.{lastTag, groups, treeRoom};
 ghost use Rattle.condition.specs.Bytes.{groupsOf, number, written};
 ghost use Rattle.nodes.specs.Words.{nodeAt};
 ghost use Rattle.nodes.specs.Laid.{shifted};
 ghost use Rattle.writing.specs.Written.{own, Put, PutTree, PutAll, Needed, Written};
+
+const SIZE: u64 = GROUP_SIZE as u64;
+
+// The most bytes of a node without its children: four numbers.
+const OWN: usize = 4 * GROUPS as usize;
 
 // A number in at most `groups` groups of seven bits, the shortest form.
 fn put(out: &mut [u8], groups: u32, n: u64) -> usize
@@ -28,12 +35,12 @@ fn put(out: &mut [u8], groups: u32, n: u64) -> usize
     if out.len() == 0 {
         return 0;
     }
-    if n < 128 {
+    if n < SIZE {
         out[0] = n as u8;
         return 1;
     }
-    out[0] = (128 + n % 128) as u8;
-    let rest = put(&mut out[1..], groups - 1, n / 128);
+    out[0] = (SIZE + n % SIZE) as u8;
+    let rest = put(&mut out[1..], groups - 1, n / SIZE);
     1 + rest
 }
 
@@ -56,13 +63,13 @@ fn put_four(out: &mut [u8], a: u64, b: u64, c: u64, d: u64) -> usize
 
 // A tag, or for a negated node the next.
 fn tag(first: u64, so: bool) -> u64
-    requires { ⌜ first < 8 ⌝ }
+    requires { ⌜ first ≤ lastTag ⌝ }
     ensures { λ r. ⌜ r ≡ cond so first (first + 1) ⌝ }
 {
     if so { first } else { first + 1 }
 }
 
-// A bound c as it is written, of c + 1,000,000.
+// A bound c as it is written, of c + LARGEST_BOUND.
 fn bound(w: u32) -> u64
     ensures { λ r. ⌜ r ≡ written (shifted w) ⌝ }
 {
@@ -86,7 +93,7 @@ fn put_own(out: &mut [u8], node: Node) -> usize
 
 // The tree at i, of at most `left` nodes. That i + left is small keeps every sum below from wrapping.
 fn node(ns: &[u64], i: usize, left: usize, out: &mut [u8]) -> usize
-    requires { ⌜ i + left ≤ 65535 ⌝ }
+    requires { ⌜ i + left ≤ treeRoom ⌝ }
     ensures { λ r. ⌜ PutTree (nodeAt (now (ns .entry))) i left (now (out .entry)) (now (out .exit)) r ⌝ }
 {
     if left == 0 {
@@ -101,7 +108,7 @@ fn node(ns: &[u64], i: usize, left: usize, out: &mut [u8]) -> usize
 
 // The k trees from i on, of at most `left` nodes together.
 fn children(ns: &[u64], i: usize, left: usize, k: u32, out: &mut [u8]) -> usize
-    requires { ⌜ i + left ≤ 65535 ⌝ }
+    requires { ⌜ i + left ≤ treeRoom ⌝ }
     ensures { λ r. ⌜ PutAll (nodeAt (now (ns .entry))) i left k (now (out .entry)) (now (out .exit)) r ⌝ }
 {
     if k == 0 {
@@ -116,11 +123,11 @@ fn children(ns: &[u64], i: usize, left: usize, k: u32, out: &mut [u8]) -> usize
     a + b
 }
 
-// How many bytes a node takes without its children, which are four numbers at most: so many as are written to a room that holds any.
+// How many bytes a node takes without its children: so many as are written to a room that holds any.
 fn own_length(node: Node) -> usize
-    ensures { λ r. ⌜ (r ≡ length (own node)) × (r ≤ 12) ⌝ }
+    ensures { λ r. ⌜ (r ≡ length (own node)) × (r ≤ 4 * groups) ⌝ }
 {
-    let mut room: [u8; 12] = [0; 12];
+    let mut room: [u8; OWN] = [0; OWN];
     put_own(&mut room, node)
 }
 
@@ -128,7 +135,7 @@ fn own_length(node: Node) -> usize
 pub fn needed(ns: &[u64], n: usize) -> usize
     ensures { λ r. ⌜ Needed (nodeAt (now (ns .entry))) n r ⌝ }
 {
-    if ROOM < n {
+    if TREE_ROOM < n {
         return 0;
     }
     let mut sum: usize = 0;
@@ -144,7 +151,7 @@ pub fn needed(ns: &[u64], n: usize) -> usize
 pub fn write(ns: &[u64], n: usize, out: &mut [u8]) -> usize
     ensures { λ r. ⌜ Written (nodeAt (now (ns .entry))) n (now (out .entry)) (now (out .exit)) r ⌝ }
 {
-    if ROOM < n {
+    if TREE_ROOM < n {
         return 0;
     }
     let all = needed(ns, n);

@@ -1,5 +1,5 @@
-//! Prints what the programs `worked`, `judge`, `find` and `second` must print, by the plain implementation of document 01: stored NAME,
-//! with the program's input on standard input. ../stored compares that with the stored files that the gate compares the programs with.
+//! Prints what the programs `lines` and `second` must print, by the plain implementation of document 01: stored NAME, with the program's
+//! input on standard input. ../stored compares that with the stored files that the gate compares the programs with.
 
 use rules::document::{self, Refusal, DONE, RATION_USED_UP};
 use rules::typed::{Line, Stuck};
@@ -8,15 +8,15 @@ use std::process::ExitCode;
 
 const LARGEST_U32: i64 = 4_294_967_295;
 
-/// "The longest tree has 190 bytes": the most room that a line can give.
-const MOST_ROOM: i64 = 190;
+/// The most room that a line can give.
+const MOST_ROOM: i64 = document::LONGEST as i64;
 
 /// The bytes in hex, a space between them.
 fn spaced(bytes: &[u8]) -> String {
     bytes.iter().map(|byte| format!("{byte:02x}")).collect::<Vec<_>>().join(" ")
 }
 
-/// A line of `worked`: condition, ration, room. Answer, place, questions and ends, and the result after answers 0 and 10.
+/// `trim`: condition, ration, room. Answer, place, questions and ends, and the result after answers 0 and 10.
 fn trimmed(mut line: Line) -> Result<String, Stuck> {
     let bytes = line.tree()?;
     let (ration, room) = (line.part(LARGEST_U32)?, line.part(MOST_ROOM)?);
@@ -30,7 +30,7 @@ fn trimmed(mut line: Line) -> Result<String, Stuck> {
     })
 }
 
-/// A line of `judge`: condition, boolean bits, numbers. Answer, place and value; "its refusals carry false".
+/// `judge`: condition, boolean bits, numbers. Answer, place and value; "its refusals carry false".
 fn judged(mut line: Line) -> Result<String, Stuck> {
     let (bytes, flags, numbers) = (line.tree()?, line.part(LARGEST_U32)?, line.numbers()?);
     Ok(match document::judge(&bytes, flags as u32, &numbers) {
@@ -39,11 +39,11 @@ fn judged(mut line: Line) -> Result<String, Stuck> {
     })
 }
 
-/// A line of `find`: a condition alone. "Which satisfying assignment it shows is free", so only that it satisfies is printed.
+/// `find`: a condition alone. "Which satisfying assignment it shows is free", so only that it satisfies is printed.
 fn found(mut line: Line) -> Result<String, Stuck> {
     let bytes = line.tree()?;
     line.end()?;
-    Ok(match document::find(&bytes, 15) {
+    Ok(match document::find(&bytes, document::NUMBERS) {
         Ok((flags, numbers)) => {
             assert_eq!(document::judge(&bytes, flags, &numbers), Ok(true), "the plain search shows what the plain judge denies");
             format!("{DONE} 0 judged true")
@@ -52,24 +52,38 @@ fn found(mut line: Line) -> Result<String, Stuck> {
     })
 }
 
+/// The call that a line's verb names.
+fn called(mut line: Line) -> Result<String, Stuck> {
+    match line.verb().as_str() {
+        "trim" => trimmed(line),
+        "judge" => judged(line),
+        "find" => found(line),
+        _ => Err(Stuck(0)),
+    }
+}
+
 /// The line, and what is answered to it or where it is not understood.
-fn answered(line: &[u8], answer: fn(Line) -> Result<String, Stuck>) -> Vec<u8> {
-    let said = answer(Line::new(line)).unwrap_or_else(|Stuck(place)| format!("not understood at {place}"));
+fn answered(line: &[u8]) -> Vec<u8> {
+    let said = called(Line::new(line)).unwrap_or_else(|Stuck(place)| format!("not understood at {place}"));
     [line, b" => ", said.as_bytes()].concat()
 }
 
 /// The ends of a condition in hex, constants aside; it stands before a `/` or at the end of the text.
-fn ends(text: &str) -> usize {
-    let bytes = Line::new(text.as_bytes()).tree().expect("worked prints trees in hex");
-    document::ends(&document::read(&bytes).expect("what worked trims or writes is a tree")).len()
+fn ends(mut line: Line) -> usize {
+    let bytes = line.tree().expect("lines prints trees in hex");
+    document::ends(&document::read(&bytes).expect("what lines trims or writes is a tree")).len()
 }
 
-/// What demand 2 leaves to say of a line that `worked` printed: the result means the same, and each end of a finished one matters.
+/// What demand 2 leaves to say of a `trim` that `lines` printed: the result means the same, and each end of a finished one matters.
 fn tried(line: &[u8]) -> Vec<u8> {
     let text = String::from_utf8_lossy(line);
-    let (condition, said) = text.split_once(" => ").expect("worked prints an answer to each line");
+    let (condition, said) = text.split_once(" => ").expect("lines prints an answer to each line");
     let words: Vec<&str> = said.splitn(5, ' ').collect();
-    let same = |how| format!("same, {} of {} ends, {how}", ends(words[4]), ends(condition));
+    let same = |how| {
+        let mut line = Line::new(condition.as_bytes());
+        line.verb();
+        format!("same, {} of {} ends, {how}", ends(Line::new(words[4].as_bytes())), ends(line))
+    };
     let verdict = match words[0].parse::<u32>() {
         Ok(DONE) => same("each matters"),
         Ok(RATION_USED_UP) => same("stopped"),
@@ -84,9 +98,7 @@ type OfLine = fn(&[u8]) -> Vec<u8>;
 
 fn program(name: &str) -> Option<OfLine> {
     match name {
-        "worked" => Some(|line| answered(line, trimmed)),
-        "judge" => Some(|line| answered(line, judged)),
-        "find" => Some(|line| answered(line, found)),
+        "lines" => Some(answered),
         "second" => Some(tried),
         _ => None,
     }
@@ -114,6 +126,6 @@ fn main() -> ExitCode {
 }
 
 fn usage() -> ExitCode {
-    eprintln!("usage: stored worked|judge|find|second");
+    eprintln!("usage: stored lines|second");
     ExitCode::from(2)
 }

@@ -1,11 +1,13 @@
--- `travelring_judge` meets its contract: what judge answers, as three numbers, two of them in the report.
+-- `travelring_judge` meets its contract: what judge answers, told, two of its numbers in the report.
 use Rattle.boundary.proofs.Reporting.{judge-reports}
 use borrow.Author.Needs.{needs}
 use Rattle.boundary.proofs.travelring_judge.Statement.{statement}
 use Rattle.boundary.proofs.travelring_judge.Tie as tie
 
 returns : tie.Need-returns
-returns c = judge-reports _ _ _ _ (c .before .judge .result) _ (c .before .judge .ensures) (c .said-judged .ensures)
+returns c =
+    let judge = c .before .before .judge in
+    judge-reports _ _ _ _ (judge .result) _ _ (judge .ensures) (c .before .told .ensures) (c .bit .ensures)
 
 pub travelring-judge-spec : {M : Type 1} → statement M
 travelring-judge-spec =
@@ -14,5 +16,6 @@ travelring-judge-spec =
     (λ c κs. search needs)
     (λ c κs. search needs)
     (λ c. search needs)
+    (λ c κs. search needs)
     (λ c. search needs)
     returns)

@@ -27,4 +27,4 @@ returns-3 c =
 pub find-spec : {M : Type 1} → statement M
 find-spec =
     tie.close
-    (tie.spec (λ c. search needs) returns returns-2 (λ c κs. search needs) attempt-requires (λ c. search needs) returns-3)
+    (tie.spec returns returns-2 (λ c κs. search needs) attempt-requires (λ c. search needs) returns-3)

@@ -57,7 +57,6 @@ show-spec =
     μ-loop
     loop-holds
     (λ c. search needs)
-    (λ c. search needs)
     number-requires
     mul-t7
     slice-set-from-numbers

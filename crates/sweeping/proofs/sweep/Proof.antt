@@ -5,6 +5,7 @@ use mathlib.Core.Logic.{inl, inr}
 use native.Mathlib.Omega.{arith}
 use borrow.Author.Needs.{needs}
 use borrow.Author.Tests.{ltb-true, ltb-false}
+use Rattle.keeping.specs.Kept.{questions}
 use Rattle.nodes.specs.Words.{nodeAt}
 use Rattle.sweeping.proofs.Stages.{Goes, nothing, begins, goes-on, cuts, ended}
 use Rattle.sweeping.proofs.sweep.Statement.{statement}
@@ -22,7 +23,7 @@ loop-holds : tie.Need-loop-holds Inv-loop μ-loop
 loop-holds c =
     let tree2 = c .before .before .before .tree2 in
     let fold = c .before .before .before .before .fold in
-    begins (tree2 .given) (omega arith) (c .before .live .ensures) refl (λ t. nothing t 128)
+    begins (tree2 .given) (omega arith) (c .before .live .ensures) refl (λ t. nothing t questions)
     (record { bits-long = refl; numbers-long = refl; known-long = refl; few = c .none .ensures }) (fold .ensures)
 
 answer-requires : tie.Need-answer-requires Inv-loop μ-loop
@@ -50,7 +51,7 @@ loop-again c =
     let if1 = c .before .before .before .before .before .before .before .before .before .before .before .before .before .before .before .if1 in
     let if2 = c .before .before .before .before .before .before .if2 in
     let fold2 = c .before .before .before .fold2 in
-    cuts (tree6 .given) (omega arith) (c .live2 .ensures) refl (λ t. nothing t 128)
+    cuts (tree6 .given) (omega arith) (c .live2 .ensures) refl (λ t. nothing t questions)
     (record { bits-long = bits2 .given; numbers-long = numbers2 .given; known-long = refl; few = answer .ensures .few })
     (loop .inv) (loop-test .taken) (ltb-true (loop .q) (loop .end) (if1 .taken)) (answer .ensures)
     (if2 .taken) (fold2 .ensures)

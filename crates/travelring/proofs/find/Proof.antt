@@ -28,7 +28,6 @@ pub find-spec : {M : Type 1} → statement M
 find-spec =
     tie.close
     (tie.spec
-    (λ c. search needs)
     returns
     (λ c κs. search needs)
     (λ c. search needs)

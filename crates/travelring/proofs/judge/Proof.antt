@@ -24,7 +24,6 @@ pub judge-spec : {M : Type 1} → statement M
 judge-spec =
     tie.close
     (tie.spec
-    (λ c. search needs)
     returns
     (λ c κs. search needs)
     (λ c. search needs)

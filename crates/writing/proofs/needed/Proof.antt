@@ -4,13 +4,14 @@ use Prim.Native.Nat.{_≤_, _*_, _-_}
 use mathlib.Core.Path.{_≡_}
 use native.Mathlib.Omega.{arith}
 use borrow.Author.Needs.{needs}
+use Rattle.condition.specs.Limits.{groups, treeRoom}
 use Rattle.nodes.specs.Words.{nodeAt}
 use Rattle.writing.proofs.Total.{total, one-more, none-yet, all-counted}
 use Rattle.writing.proofs.needed.Statement.{statement}
 use Rattle.writing.proofs.needed.Tie as tie
 
 abbrev Inv-loop : tie.InvT-loop
-Inv-loop ns n sum₀ i₀ sum i = (i ≤ n) × (n ≤ 64) × (sum ≤ 12 * i) × (sum ≡ total (nodeAt ns) 0 i)
+Inv-loop ns n sum₀ i₀ sum i = (i ≤ n) × (n ≤ treeRoom) × (sum ≤ 4 * groups * i) × (sum ≡ total (nodeAt ns) 0 i)
 
 abbrev μ-loop : tie.MeasureT-loop
 μ-loop ns n sum₀ i₀ sum i = n - i

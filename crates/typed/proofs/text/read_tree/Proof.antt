@@ -7,10 +7,10 @@ use Rattle.typed.proofs.text.read_tree.Statement.{statement}
 use Rattle.typed.proofs.text.read_tree.Tie as tie
 
 abbrev Inv-loop : tie.InvT-loop
-Inv-loop line tree₀ count₀ at₀ tree count at = (count ≤ length tree₀) × (length tree ≡ length tree₀)
+Inv-loop line start tree₀ count₀ at₀ tree count at = (count ≤ length tree₀) × (length tree ≡ length tree₀)
 
 abbrev μ-loop : tie.MeasureT-loop
-μ-loop line tree₀ count₀ at₀ tree count at = length tree₀ - count
+μ-loop line start tree₀ count₀ at₀ tree count at = length tree₀ - count
 
 pub read-tree-spec : {M : Type 1} → statement M
 read-tree-spec =
