@@ -1,5 +1,7 @@
 // Answers a question about an end: its nodes are written, and the search says whether some assignment satisfies them. If none does the
 // answer is yes: the critical constraint implies the end, or its negation. Else it is no, and the assignment is handed out.
+#![tactic(auto)]
+
 ghost use Rattle.nodes.specs.Words.{node_at};
 ghost use Rattle.answering.specs.Answered.{Answers};
 

@@ -1,6 +1,8 @@
 // Writes the question about an end: its critical constraint and the end or its opposite, as one `and`. The constraint is gathered by
 // recursion down the path to the end, and a sibling below an `or` is negated by recursion down its own paths; what falls is how many
 // connectives may still nest. Where a contract asks that a node's place and a count stay within the room, that keeps every sum from wrapping.
+#![tactic(auto)]
+
 ghost use Rattle.std.specs.Prelude.{◌≡◌, ℕ, ◌+◌, ◌≤◌, ◌<◌, length, get_or};
 ghost use Rattle.condition.specs.Limits.{question_room};
 ghost use Rattle.nodes.specs.Words.{node_of, node_at};
@@ -10,7 +12,7 @@ use condition::{DEEPEST, QUESTION_ROOM};
 use nodes::{Node, node_at, opposed_word, put_node, size_at, word_at};
 
 // The tree that stands from node `at` on, in `size` nodes, and the end of it that is asked about, counted from 0.
-#[derive(Drop)]
+#[derive(Clone, Copy)]
 struct Place {
     at: usize,
     size: usize,
@@ -18,7 +20,7 @@ struct Place {
 }
 
 // What was written: its nodes, and how many trees they are.
-#[derive(Drop)]
+#[derive(Clone, Copy)]
 struct Wrote {
     size: usize,
     trees: u32,

@@ -1,4 +1,6 @@
 // The C boundary. Each call returns document 01's number and writes its report, a place and what comes with it, in every answer.
+#![tactic(auto)]
+
 ghost use Rattle.std.specs.Prelude.{cond, ◌≡◌};
 ghost use Rattle.travelring.specs.Judging.{judged};
 ghost use Rattle.boundary.specs.Reports.{ReportsJudged, ReportsFound, ReportsTrimmed};

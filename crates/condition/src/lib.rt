@@ -1,5 +1,7 @@
 // The limits of document 01 as code has them, each named once; specs/Limits.antt has them as definitions.
 
+#![tactic(auto)]
+
 // A whole number of an assignment.
 pub type Whole = i32;
 

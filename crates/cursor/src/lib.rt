@@ -1,4 +1,6 @@
 // A cursor by value over a condition's bytes: its methods read a tag, a count, a name or a bound and return the next cursor.
+#![tactic(auto)]
+
 ghost use Rattle.std.specs.Prelude.{◌≡◌, ◌≤◌, ◌<◌, ◌&&◌, ltb, eqb};
 ghost use Rattle.condition.specs.Limits.{groups};
 ghost use Rattle.condition.specs.Reading.{number_from, up_to, read_tag, read_count, read_name, read_bound};
@@ -7,7 +9,7 @@ ghost use Rattle.cursor.specs.Said.{from, said, answer_of, place_of, Small};
 use condition::{GROUP_SIZE, GROUPS, LARGEST_BOUND, LAST_TAG, Numeral};
 
 // Why a reading stopped, each with its place: the answers of reading, in the table's order.
-#[derive(Drop)]
+#[derive(Clone, Copy)]
 pub enum Refusal {
     Ended(usize),
     Form(usize),
@@ -52,12 +54,12 @@ impl Refusal {
     }
 }
 
-#[derive(Drop)]
+#[derive(Clone, Copy)]
 pub struct Cursor {
     pub at: usize,
 }
 
-#[derive(Drop)]
+#[derive(Clone, Copy)]
 pub enum Step {
     Value(Numeral, Cursor),
     Refused(Refusal),

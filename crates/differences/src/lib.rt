@@ -1,6 +1,8 @@
 // The table of tightest differences between all sixteen numbers. Entry i * 16 + j bounds the difference of numbers i and j and is kept
 // with an offset, so that none is negative. A table starts from the range that holds a satisfying assignment if there is one at all,
 // so no entry is infinite.
+#![tactic(auto)]
+
 ghost use Rattle.std.specs.Prelude.{◌≡◌, ◌+◌, ◌-◌, ◌*◌, ◌≤◌, ◌<◌, min, pos, ◌-ℤ◌};
 ghost use Rattle.condition.specs.Limits.{last_number, largest_bound};
 ghost use Rattle.condition.specs.Meaning.{at_most, above};

@@ -1,5 +1,7 @@
 // Folds a condition's nodes, with one end cut to a constant or none: a node function calls a children function which calls the node
 // function, nodes left falling. What is folded is written behind what is read. Where no tree is laid out the walk still ends.
+#![tactic(auto)]
+
 ghost use Rattle.std.specs.Prelude.{◌≡◌, cond, ◌+◌, ◌-◌, ◌≤◌, ◌<◌, length};
 ghost use Rattle.condition.specs.Limits.{tree_room};
 ghost use Rattle.nodes.specs.Words.{node_at};
@@ -10,7 +12,7 @@ use condition::TREE_ROOM;
 use nodes::{Node, node_at, put_node, size_at};
 
 // A folded tree: false (0), true (1) or no constant (2), its nodes, and the cut as counted from the end after it.
-#[derive(Drop)]
+#[derive(Clone, Copy)]
 struct Kid {
     kind: u32,
     size: usize,
@@ -18,7 +20,7 @@ struct Kid {
 }
 
 // Folded children: whether one decides, else how many are left and their nodes, and the cut as counted from the end after them.
-#[derive(Drop)]
+#[derive(Clone, Copy)]
 struct Kids {
     decided: bool,
     count: u32,

@@ -1,5 +1,7 @@
 // Judges a condition's nodes under an assignment: a node function calls a children function which calls the node function, nodes
 // left falling. Where no tree is laid out the answer means nothing, and the walk still ends.
+#![tactic(auto)]
+
 ghost use Rattle.std.specs.Prelude.{◌≡◌, List, cond, not, ℕ, ◌+◌, ◌^◌, ◌≤◌, ◌<◌, ℤ, pos, ◌-ℤ◌};
 ghost use Rattle.std.specs.Int.Signed.{mag};
 ghost use Rattle.condition.specs.Limits.{question_room};

@@ -1,6 +1,8 @@
 // Keeps the assignments that searches found, and lets them answer later questions. One walk of the tree under an assignment answers no
 // to a question about each end that turns the root there; only a question that no kept assignment answers is searched. Whatever
 // assignments are kept, what they tell is right: nothing needs to be known of them.
+#![tactic(auto)]
+
 ghost use Rattle.std.specs.Prelude.{◌≡◌, suc, ◌*◌, ◌%◌, ◌≤◌, ◌<◌, length};
 ghost use Rattle.nodes.specs.Words.{node_at};
 ghost use Rattle.keeping.specs.Kept.{kept, questions, Notes, Learns, Room, Replies};
@@ -19,7 +21,7 @@ pub const QUESTIONS: usize = 2 * QUESTION_ROOM;
 
 // The answer to a question, and what it leaves for the next: how many assignments are kept, and the first of them that the tree has not
 // been walked under.
-#[derive(Drop)]
+#[derive(Clone, Copy)]
 pub struct Reply {
     pub yes: bool,
     pub many: usize,

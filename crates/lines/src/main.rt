@@ -1,5 +1,7 @@
 // Answers lines typed as text. A line is a call: a verb, a condition's bytes, then what else the call takes. It is printed with what the call
 // answers, or where it is not understood. A heading, which begins with `#`, is printed as it is.
+#![tactic(auto)]
+
 mod find_line;
 mod judge_line;
 mod trim_line;
@@ -11,7 +13,7 @@ use typed::text::{MOST_BYTES, Read, is_heading, line_end, read_tree, word_end};
 // Room for all the lines.
 const MOST_TEXT: usize = 262144;
 
-#[derive(Drop)]
+#[derive(Clone, Copy)]
 enum Verb {
     Trim,
     Judge,

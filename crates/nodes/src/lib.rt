@@ -1,10 +1,12 @@
 // A condition in memory: its nodes in prefix order, each packed into one number. A connective's node holds its child count and the
 // number of nodes below it, so a subtree is skipped in one step. Nothing else knows the layout of a number.
+#![tactic(auto)]
+
 ghost use Rattle.std.specs.Prelude.{◌≡◌, ◌+◌, ◌≤◌, ◌<◌, cond, get_or, set};
 ghost use Rattle.condition.specs.Limits.{last_tag};
 ghost use Rattle.nodes.specs.Words.{packed, node_of, word_of, node_at, opposed, size_of, count_of};
 
-#[derive(Drop)]
+#[derive(Clone, Copy)]
 pub enum Node {
     Plain(bool),
     // and (true) or or, the child count, the nodes below

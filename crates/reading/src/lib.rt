@@ -1,4 +1,6 @@
 // Reads a condition's bytes into nodes: a node function that calls a children function that calls the node function.
+#![tactic(auto)]
+
 ghost use Rattle.std.specs.Prelude.{◌≡◌, ◌≤◌, ◌<◌, ◌*◌, length};
 ghost use Rattle.condition.specs.Limits.{largest_bound};
 ghost use Rattle.condition.specs.Reading.{bound_of, read as read_of};
@@ -10,21 +12,21 @@ use cursor::{Cursor, Refusal, Step};
 use nodes::{Node, put_node};
 
 // What a part of the reading came to: the next free node, the next cursor and the ends read; or why it stopped.
-#[derive(Drop)]
+#[derive(Clone, Copy)]
 pub enum Part {
     Read(usize, Cursor, u32),
     Stopped(Refusal),
 }
 
 // What the whole came to: the tree's number of nodes, or the refusal.
-#[derive(Drop)]
+#[derive(Clone, Copy)]
 pub enum Answer {
     Tree(usize),
     Refused(Refusal),
 }
 
 // A condition in memory, its root at node 0, where it was read.
-#[derive(Drop)]
+#[derive(Clone, Copy)]
 pub struct Held {
     pub nodes: [u64; TREE_ROOM],
     pub answer: Answer,

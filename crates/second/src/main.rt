@@ -1,5 +1,7 @@
 // Tries assignments on what the program `lines` printed of each `trim`, and shares no code with the library. For each line it prints whether the
 // condition and the result agree under every assignment, how many of the ends are left, and whether each of these makes a difference.
+#![tactic(auto)]
+
 mod read;
 mod text;
 mod trial;
@@ -16,7 +18,7 @@ const MOST_TEXT: usize = 131072;
 // In place of a node: there is none.
 const NONE: usize = MOST_NODES;
 
-#[derive(Drop)]
+#[derive(Clone, Copy)]
 enum Answer {
     Finished,
     Stopped,

@@ -41,7 +41,7 @@ pub const OR: u8 = 3;
 pub const DIFFERS: u8 = 4;
 
 // Of two names: x + a <= y + b.
-#[derive(Drop)]
+#[derive(Clone, Copy)]
 pub struct AtMost {
     pub x: usize,
     pub a: u32,
@@ -50,7 +50,7 @@ pub struct AtMost {
 }
 
 // The nodes in prefix order, with what each says if it is an end. A tree that is not understood has size 0.
-#[derive(Drop)]
+#[derive(Clone, Copy)]
 pub struct Tree {
     pub size: usize,
     pub kind: [u8; ROOM],
@@ -58,7 +58,7 @@ pub struct Tree {
 }
 
 // What was read: a node that stands `times` times, 0 if it is not understood.
-#[derive(Drop)]
+#[derive(Clone, Copy)]
 struct Node {
     kind: u8,
     times: usize,
@@ -66,7 +66,7 @@ struct Node {
     next: usize,
 }
 
-#[derive(Drop)]
+#[derive(Clone, Copy)]
 struct Number {
     value: u64,
     next: usize,

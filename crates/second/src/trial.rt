@@ -30,7 +30,7 @@ const OPEN: u8 = 1;
 const YES: u8 = 2;
 
 // The part of a tree from a node on: its value, the first end that can still change it, and where the next part begins.
-#[derive(Drop)]
+#[derive(Clone, Copy)]
 struct Part {
     value: u8,
     end: usize,

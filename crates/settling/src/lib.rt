@@ -1,4 +1,6 @@
 // Settles whether some assignment makes a condition true, and shows one: first all that needs no guess, then a guess at an `or`.
+#![tactic(auto)]
+
 ghost use Rattle.std.specs.Prelude.{◌≡◌, ◌+◌, ◌≤◌, ◌<◌, cond, eqb, length};
 ghost use Rattle.condition.specs.Limits.{last_number, question_room};
 ghost use Rattle.differences.specs.Table.{Closed};
@@ -12,7 +14,7 @@ use differences::{CELLS, Distance};
 use nodes::{Node, count_at, node_at, size_at};
 
 // An assignment was found, with these boolean bits, its numbers in the lent slice; or there is none.
-#[derive(Drop)]
+#[derive(Clone, Copy)]
 pub enum Verdict {
     Found(u32),
     Nothing,
@@ -22,7 +24,7 @@ pub enum Verdict {
 const CALLS: usize = 3 * QUESTION_ROOM + 2;
 
 // After a node, or after several: whether nothing contradicts, the next node, and how many `or`s wait.
-#[derive(Drop)]
+#[derive(Clone, Copy)]
 struct Step(bool, usize, usize);
 
 // What is kept of a boolean: 0 nothing, 1 that it is true, 2 that it is false.

@@ -1,6 +1,8 @@
 // Sweeps a condition: ends from left to right, question one before two; on the first yes the end is cut, the tree folded, and the sweep
 // starts again at the first end. A question is asked only while the ration has one left. A question that an assignment found earlier
 // answers is asked and counted like any other.
+#![tactic(auto)]
+
 ghost use Rattle.nodes.specs.Words.{node_at};
 ghost use Rattle.sweeping.specs.Swept.{Sweeps};
 
@@ -8,7 +10,7 @@ use condition::{TREE_ROOM, Whole};
 use keeping::{KEPT, KEPT_NUMBERS, QUESTIONS, answer};
 
 // The tree reached, in its first `size` nodes, the questions asked, and whether the work is finished.
-#[derive(Drop)]
+#[derive(Clone, Copy)]
 pub struct Swept {
     pub tree: [u64; TREE_ROOM],
     pub size: usize,

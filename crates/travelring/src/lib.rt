@@ -1,4 +1,6 @@
 // The public calls of Travelring: each answers for every input.
+#![tactic(auto)]
+
 ghost use Rattle.std.specs.Prelude.{◌≡◌};
 ghost use Rattle.travelring.specs.Judging.{told, judged};
 ghost use Rattle.travelring.specs.Finding.{told_found, Finds, found_by};
@@ -10,7 +12,7 @@ use reading::Answer;
 use settling::Verdict;
 
 // Judge's answer: the value, a refusal of the bytes, or numbers that aren't as many as an assignment has.
-#[derive(Drop)]
+#[derive(Clone, Copy)]
 pub enum Judged {
     Value(bool),
     Refused(Refusal),
@@ -19,7 +21,7 @@ pub enum Judged {
 
 // Find's answer: the boolean bits of an assignment whose numbers are written, that there is none, a refusal of the bytes, or numbers
 // that aren't as many as an assignment has.
-#[derive(Drop)]
+#[derive(Clone, Copy)]
 pub enum Found {
     Shown(u32),
     Nothing,
@@ -29,7 +31,7 @@ pub enum Found {
 
 // Trim's answer: the work ended, or the ration was used up first, with the questions asked, the ends of the result and its bytes, which
 // are written; a refusal of the condition's bytes; or an output too short for the result, and the bytes needed.
-#[derive(Drop)]
+#[derive(Clone, Copy)]
 pub enum Trimmed {
     Finished(u32, u32, usize),
     Stopped(u32, u32, usize),
@@ -38,21 +40,21 @@ pub enum Trimmed {
 }
 
 // An answer by document 01's number and place, and what comes with it.
-#[derive(Drop)]
+#[derive(Clone, Copy)]
 pub struct Judgement {
     pub answer: u32,
     pub place: usize,
     pub value: bool,
 }
 
-#[derive(Drop)]
+#[derive(Clone, Copy)]
 pub struct Finding {
     pub answer: u32,
     pub place: usize,
     pub flags: u32,
 }
 
-#[derive(Drop)]
+#[derive(Clone, Copy)]
 pub struct Trimming {
     pub answer: u32,
     pub place: usize,

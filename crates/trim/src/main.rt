@@ -1,4 +1,6 @@
 // Trims the condition whose bytes come on standard input, as document 01 describes the program.
+#![tactic(auto)]
+
 use condition::LONGEST_TREE;
 use libc::STDIN_FILENO;
 use typed::print::print;

@@ -1,6 +1,8 @@
 // One walk of a condition's nodes under an assignment tells for every end at once whether turning that end turns the root, which is
 // whether the end's critical constraint holds there. A node function calls a children function which calls the node function, nodes left
 // falling. Where no tree is laid out the marks mean nothing, and the walk still ends.
+#![tactic(auto)]
+
 ghost use Rattle.std.specs.Prelude.{◌≡◌, ◌+◌, ◌≤◌, ◌<◌, length};
 ghost use Rattle.condition.specs.Limits.{question_room};
 ghost use Rattle.condition.specs.Meaning.{given};
@@ -12,7 +14,7 @@ use judging::{at_most, both, flag, turned};
 use nodes::{Node, node_at, size_at};
 
 // What a walk saw: whether the trees are true, and how many ends they have, each of which now has its mark.
-#[derive(Drop)]
+#[derive(Clone, Copy)]
 struct Seen {
     value: bool,
     ends: usize,

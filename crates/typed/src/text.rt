@@ -14,14 +14,14 @@ pub const MOST_NUMBERS: usize = ASSIGNED + 1;
 pub const LARGEST_U32: usize = 4294967295;
 
 // What a part of a line came to: a value and where the line goes on; or the first character that cannot be continued.
-#[derive(Drop)]
+#[derive(Clone, Copy)]
 pub enum Read {
     Value(usize, usize),
     Stuck(usize),
 }
 
 // The same of a signed number.
-#[derive(Drop)]
+#[derive(Clone, Copy)]
 enum Number {
     Value(Whole, usize),
     Stuck(usize),
