@@ -1,0 +1,44 @@
+-- `differences::work_in` meets its contract. The loop's invariant: the rows before i are lowered, all others are as they were.
+use Prim.Native.Nat.{◌-◌}
+use mathlib.Core.Logic.{⊎_elim}
+use native.Mathlib.Omega.{arith}
+use borrow.Author.Rules.{rules}
+use Rattle.differences.specs.Table.{numbers}
+use Rattle.differences.proofs.Lowered.{between_upper, refuses, nothing_new, adds}
+use Rattle.differences.proofs.Parts.{part_none}
+use Rattle.differences.proofs.Rows.{LoweredTo, lowers, row_upper, row_lowered, row_left, rows_added}
+use Rattle.differences.proofs.work_in.Goals as goal
+
+pub overflow_add-t : goal.overflow_add-t
+overflow_add-t c = omega (arith, between_upper c.requires.0)
+
+pub returns-then-t-y : goal.returns-then-t-y
+returns-then-t-y c =
+    refuses c.requires.0 c.args.c (omega arith)
+
+pub returns-then-t-x : goal.returns-then-t-x
+returns-then-t-x c =
+    adds c.requires.0 c.args.c (omega arith) (nothing_new c.requires.0 c.args.c (omega arith))
+
+pub loop-i-init : goal.loop-i-init
+loop-i-init c =
+    record { most = omega arith; ready = c.requires.0; bound = c.requires.1; ok = omega arith; part = part_none 0 _ _ }
+
+pub overflow_add-left-in-loop-i : goal.overflow_add-left-in-loop-i
+overflow_add-left-in-loop-i c =
+    omega (arith, row_upper c.loop-i.invariant (omega arith))
+
+pub overflow_add-t-in-loop-i : goal.overflow_add-t-in-loop-i
+overflow_add-t-in-loop-i c =
+    omega (arith, row_upper c.loop-i.invariant (omega arith))
+
+pub lower_row-requires : goal.lower_row-requires
+lower_row-requires c =
+    lowers c.loop-i.invariant (omega arith) (omega arith)
+
+pub loop-i-preserved : goal.loop-i-preserved
+loop-i-preserved c =
+    ?
+
+pub returns : goal.returns
+returns c = rows_added c.loop-i.invariant (omega arith)

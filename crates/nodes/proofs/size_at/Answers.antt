@@ -1,0 +1,18 @@
+-- `nodes::size_at` meets its contract: in each arm the node is the one matched.
+use mathlib.Core.Path.{sym, ◌∙◌, ap}
+use native.Mathlib.Omega.{arith}
+use Rattle.nodes.specs.Words.{size_of}
+use borrow.Author.Rules.{rules}
+use Rattle.nodes.proofs.size_at.Goals as goal
+
+pub returns-in-Join : goal.returns-in-Join
+returns-in-Join c = (ap size_of (sym c.in-Join.is ∙ c.node_at.ensures), omega arith, omega arith)
+
+pub returns-in-Plain : goal.returns-in-Plain
+returns-in-Plain c = (ap size_of (sym c.in-Plain.is ∙ c.node_at.ensures), omega arith, omega arith)
+
+pub returns-in-Flag : goal.returns-in-Flag
+returns-in-Flag c = (ap size_of (sym c.in-Flag.is ∙ c.node_at.ensures), omega arith, omega arith)
+
+pub returns-in-Bound : goal.returns-in-Bound
+returns-in-Bound c = (ap size_of (sym c.in-Bound.is ∙ c.node_at.ensures), omega arith, omega arith)
