@@ -8,6 +8,7 @@ use Rattle.differences.proofs.Lowered.{between_upper, refuses, nothing_new, adds
 use Rattle.differences.proofs.Parts.{part_none}
 use Rattle.differences.proofs.Rows.{LoweredTo, lowers, row_upper, row_lowered, row_left, rows_added}
 use Rattle.differences.proofs.work_in.Goals as goal
+use Rattle.differences.proofs.work_in.Goals.{then-left-t, else-left-t}
 
 pub overflow_add-t : goal.overflow_add-t
 overflow_add-t c = omega (arith, between_upper c.requires.0)
@@ -38,7 +39,10 @@ lower_row-requires c =
 
 pub loop-i-preserved : goal.loop-i-preserved
 loop-i-preserved c =
-    ?
+    elim c.if-left-t.branch [
+      | then-left-t w ↦ rw w.t-is (row_lowered c.loop-i.invariant (omega arith) w.lower_row.ensures)
+      | else-left-t w ↦ rw w.t-is (row_left c.loop-i.invariant (omega arith) (omega arith))
+    ]
 
 pub returns : goal.returns
 returns c = rows_added c.loop-i.invariant (omega arith)
