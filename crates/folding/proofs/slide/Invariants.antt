@@ -1,0 +1,12 @@
+-- `folding::slide` meets its contract: each turn moves one more node.
+use Prim.Native.Nat.{◌-◌}
+use native.Mathlib.Omega.{arith}
+use borrow.Author.Rules.{rules}
+use Rattle.folding.proofs.Sliding.{Sliding, begun, step, slid}
+use Rattle.folding.proofs.slide.Given as goal
+
+abbrev pub invariant-loop-k : goal.invariant-loop-k
+invariant-loop-k l = Sliding l.initial.out l.out l.j l.n l.k
+
+abbrev pub decreases-loop-k : goal.decreases-loop-k
+decreases-loop-k l = l.n - l.k
