@@ -39,7 +39,7 @@ module _ (z : ℤ) (f : mag z < 2 ^ 31) where
   narrow = record { sfits = f }
 
   pub cast_fits : SFits w64 (back w32 z)
-  cast_fits = rw (to_z-of_z narrow) (sfits_widen tt narrow)
+  cast_fits = rw (to_z-of_z {w = w32} narrow) (sfits_widen tt narrow)
 
   pub cast_is : back w64 (back w32 z) ≡ z
   cast_is = rw (to_z-of_z narrow) (to_z-of_z (sfits_widen tt narrow))
@@ -58,7 +58,7 @@ module _ (a b : ℕ) (f : a < 2 ^ 32) (g : b < 2 ^ 32) where
 -- a - b of two i64 that hold numbers of 32 bits
 module _ (a b : ℤ) (f : mag a < 2 ^ 31) (g : mag b < 2 ^ 31) where
   whole : (z : ℤ) → mag z < 2 ^ 31 → back w64 z ≡ z
-  whole z h = to_z-of_z (record { sfits = omega arith })
+  whole z h = to_z-of_z {w = w64} (record { sfits = omega arith })
 
   pub signed_fits : SFits w64 (back w64 a -ℤ back w64 b)
   signed_fits = rw (whole a f, whole b g) (sub_fits a b (omega arith) (omega arith))

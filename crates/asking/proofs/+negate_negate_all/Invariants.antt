@@ -1,0 +1,26 @@
+-- `asking::negate` and `asking::negate_all` meet their contracts, a cycle of calls in which the connectives that may still nest fall. Each
+-- way out is a law of Negating.antt.
+use Prim.Native.Nat.{◌+◌, ◌-◌, ◌*◌}
+use mathlib.Core.Path.{◌≡◌, refl, ap, ◌∙◌}
+use native.Mathlib.Omega.{arith}
+use lib.ListN.{length, set, length-set}
+use borrow.Rule.Slice.PartMut.{same_len_mid}
+use borrow.Author.Rules.{rules}
+use Rattle.nodes.specs.Words.{node_at, node_of, opposed}
+use Rattle.asking.proofs.Rest.{before_rest, in_rest, put_first}
+use Rattle.asking.proofs.Negating as ways
+use Rattle.asking.proofs.Negating.{Negated}
+use Prim.Native.Nat.{ℕ, ◌<◌}
+use Rattle.asking.proofs.+negate_negate_all.Given as goal
+
+abbrev pub decreases-negate : goal.decreases-negate
+decreases-negate l = 2 * l.depth
+
+abbrev pub decreases-negate_all : goal.decreases-negate_all
+decreases-negate_all l = 2 * l.depth + 1
+
+abbrev pub invariant-negate_all-loop-k : goal.invariant-negate_all-loop-k
+invariant-negate_all-loop-k l = (length l.out ≡ length l.initial.out) × Negated (node_at l.ns) l.i l.n l.depth l.k (node_at l.out)
+
+abbrev pub decreases-negate_all-loop-k : goal.decreases-negate_all-loop-k
+decreases-negate_all-loop-k l = l.n - l.k

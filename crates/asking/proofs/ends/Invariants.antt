@@ -1,0 +1,15 @@
+-- `asking::ends` meets its contract: after k nodes their ends are counted (EndsCounted.antt).
+use Prim.Native.Nat.{◌-◌}
+use mathlib.Core.Path.{ap, ◌∙◌}
+use native.Mathlib.Omega.{arith}
+use borrow.Author.Rules.{rules}
+use Rattle.nodes.specs.Words.{node_at}
+use Rattle.asking.specs.Asked.{ends_from}
+use Rattle.asking.proofs.EndsCounted.{Counted, counted_none, counted_more, at_most_one}
+use Rattle.asking.proofs.ends.Given as goal
+
+abbrev pub invariant-loop-k : goal.invariant-loop-k
+invariant-loop-k l = Counted l.ns l.i l.n l.e l.k
+
+abbrev pub decreases-loop-k : goal.decreases-loop-k
+decreases-loop-k l = l.n - l.k

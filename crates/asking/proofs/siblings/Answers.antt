@@ -1,0 +1,12 @@
+-- `asking::siblings` meets its contract: the elder siblings, and after them the younger (Gathering.antt).
+use Prim.Native.Nat.{◌+◌, ◌-◌}
+use native.Mathlib.Omega.{arith}
+use lib.ListN.{length}
+use Rattle.asking.proofs.Gathering.{siblings_lent}
+use borrow.Author.Rules.{rules}
+use Rattle.asking.proofs.siblings.Goals as goal
+
+pub returns : goal.returns
+returns c =
+    siblings_lent _ _ _ _ _ _ _ c.star.new.out c.star-2.new.out (omega (arith, c.requires, c.out-1.given))
+    (omega arith) c.star.ensures c.star-2.ensures

@@ -1,0 +1,16 @@
+-- `writing::needed` meets its contract. The loop's invariant: the sum is that of the nodes passed, at most twelve bytes each. The measure is
+-- what is left of the nodes.
+use Prim.Native.Nat.{◌≤◌, ◌*◌, ◌-◌}
+use mathlib.Core.Path.{◌≡◌}
+use native.Mathlib.Omega.{arith}
+use borrow.Author.Rules.{rules}
+use Rattle.condition.specs.Limits.{groups, tree_room}
+use Rattle.nodes.specs.Words.{node_at}
+use Rattle.writing.proofs.Total.{total, one_more, none_yet, all_counted}
+use Rattle.writing.proofs.needed.Given as goal
+
+abbrev pub invariant-loop-i : goal.invariant-loop-i
+invariant-loop-i l = (l.i ≤ l.n) × (l.n ≤ tree_room) × (l.sum ≤ 4 * groups * l.i) × (l.sum ≡ total (node_at l.ns) 0 l.i)
+
+abbrev pub decreases-loop-i : goal.decreases-loop-i
+decreases-loop-i l = l.n - l.i

@@ -1,0 +1,6 @@
+-- `writing::tag` meets its contract.
+use borrow.Author.Rules.{rules}
+use Rattle.writing.proofs.tag.Goals as goal
+
+pub returns-else-so : goal.returns-else-so
+returns-else-so c = simp c.if-so.false
