@@ -42,7 +42,9 @@ module _ (z : ℤ) (f : mag z < 2 ^ 31) where
   cast_fits = rw (to_z-of_z {w = w32} narrow) (sfits_widen tt narrow)
 
   pub cast_is : back w64 (back w32 z) ≡ z
-  cast_is = rw (to_z-of_z narrow) (to_z-of_z (sfits_widen tt narrow))
+  cast_is =
+      let wide : SFits w64 z = sfits_widen tt narrow in
+      rw (to_z-of_z {w = w32} narrow) (to_z-of_z {w = w64} wide)
 
 -- a - b of two u32
 module _ (a b : ℕ) (f : a < 2 ^ 32) (g : b < 2 ^ 32) where

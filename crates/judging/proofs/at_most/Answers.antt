@@ -10,4 +10,4 @@ overflow_sub-result c =
 
 pub returns : goal.returns
 returns c =
-    at_most_is _ _ _ c.args.w _ _ _ c.number-a.ensures c.number-b.ensures c.difference-c.ensures c.difference-c.type-inv
+    at_most_is _ _ _ c.args.w _ _ _ c.number-a.ensures c.number-b.ensures c.difference-c.ensures c.difference-c.type_inv

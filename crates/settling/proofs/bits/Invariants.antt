@@ -1,0 +1,11 @@
+-- `settling::bits` meets its contract: from the highest boolean down (Showing.antt).
+use native.Mathlib.Omega.{arith}
+use borrow.Author.Rules.{rules}
+use Rattle.settling.proofs.Showing as showing
+use Rattle.settling.proofs.bits.Given as goal
+
+abbrev pub invariant-loop-p : goal.invariant-loop-p
+invariant-loop-p l = showing.Made l.flags l.r l.p
+
+abbrev pub decreases-loop-p : goal.decreases-loop-p
+decreases-loop-p l = l.p

@@ -1,0 +1,14 @@
+-- `settling::settle` meets its contract: each turn takes a node (Taking.antt), and the nodes left fall.
+use Prim.Native.Nat.{◌-◌}
+use native.Mathlib.Omega.{arith}
+use borrow.Author.Tests.{not-true, not-false}
+use Rattle.nodes.specs.Words.{node_at}
+use Rattle.settling.proofs.Taking as taking
+use Rattle.settling.proofs.settle.Given as goal
+
+abbrev pub invariant-loop-i : goal.invariant-loop-i
+invariant-loop-i l = taking.Progress (node_at l.ns) l.from l.to l.initial.ors l.waiting
+    l.initial.flags l.initial.table l.i l.ors l.many l.flags l.table
+
+abbrev pub decreases-loop-i : goal.decreases-loop-i
+decreases-loop-i l = l.to - l.i
