@@ -1,0 +1,24 @@
+-- `turning::node` and `turning::children` meet their contracts, a cycle of calls in which the nodes left fall: `node` spends one,
+-- `children` at least one a child. Each way out is a law of Walk.antt.
+use Rattle.condition.specs.Meaning.{given}
+use Rattle.nodes.specs.Words.{node_at}
+use Rattle.turning.proofs.Walk as walk
+use Rattle.turning.proofs.Walk.{Walked}
+use borrow.Author.Rules.{rules}
+use native.Mathlib.Omega.{arith}
+use Prim.Native.Nat.{ℕ, ◌+◌, ◌*◌, ◌<◌}
+use Rattle.turning.proofs.+children_node.Given as goal
+
+abbrev pub decreases-children : goal.decreases-children
+decreases-children l = 2 * l.left + 1
+
+abbrev pub decreases-node : goal.decreases-node
+decreases-node l = 2 * l.left
+
+abbrev pub invariant-children-loop-todo : goal.invariant-children-loop-todo
+invariant-children-loop-todo l =
+    Walked (node_at l.ns) l.i l.left l.all l.k (given l.flags l.numbers) l.at l.initial.marks l.from l.rest l.todo l.value l.ends l.marks
+
+abbrev pub decreases-children-loop-todo : goal.decreases-children-loop-todo
+decreases-children-loop-todo l =
+    l.todo

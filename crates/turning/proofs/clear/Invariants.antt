@@ -1,0 +1,11 @@
+-- `turning::clear` meets its contract: after the marks up to k they are cleared (Clearing.antt).
+use Prim.Native.Nat.{◌-◌}
+use native.Mathlib.Omega.{arith}
+use Rattle.turning.proofs.Clearing.{Clearing, stays, clears_none, clears_one, cleared}
+use Rattle.turning.proofs.clear.Given as goal
+
+abbrev pub invariant-loop-k : goal.invariant-loop-k
+invariant-loop-k l = Clearing l.from l.to l.k l.initial.marks l.marks
+
+abbrev pub decreases-loop-k : goal.decreases-loop-k
+decreases-loop-k l = l.to - l.k
