@@ -1,0 +1,13 @@
+-- `keeping::recall` meets its contract: each turn learns from one more assignment (Knowing.antt).
+use Prim.Native.Nat.{◌-◌}
+use native.Mathlib.Omega.{arith}
+use Rattle.nodes.specs.Words.{node_at}
+use Rattle.keeping.specs.Kept.{Learns}
+use Rattle.keeping.proofs.Knowing.{learns_none, learns_more}
+use Rattle.keeping.proofs.recall.Given as goal
+
+abbrev pub invariant-loop-k : goal.invariant-loop-k
+invariant-loop-k l = Learns (node_at l.ns) l.n l.initial.known l.known
+
+abbrev pub decreases-loop-k : goal.decreases-loop-k
+decreases-loop-k l = l.many - l.k
