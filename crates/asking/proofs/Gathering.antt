@@ -3,12 +3,12 @@
 use Prim.Native.Nat.{ℕ, suc, ◌+◌, ◌-◌, ◌≤◌, ◌<◌, max}
 use mathlib.Core.Path.{◌≡◌, refl, sym, subst, ap, ◌∙◌}
 use mathlib.Core.List.{List}
-use mathlib.Core.Bool.{Bool, true, false}
+use mathlib.Core.Bool.{Bool, true}
 use native.Mathlib.Omega.{arith}
 use lib.ListN.{length, get_or, set, length-set}
 use borrow.Rule.Slice.PartMut.{put_mid}
 use Rattle.condition.specs.Limits.{deepest, question_room}
-use Rattle.condition.specs.Meaning.{End, Join, Tree, plain, leaf, join, Forest, none, more, count}
+use Rattle.condition.specs.Meaning.{End, Tree, leaf, join, Forest, more, count}
 use Rattle.condition.specs.Depth.{deep, deep_all}
 use Rattle.condition.specs.Folding.{live, live_all}
 use Rattle.nodes.specs.declared.Node.{Node}
@@ -17,7 +17,7 @@ use Rattle.nodes.specs.Words.{node_of, node_at, word_of}
 use Rattle.nodes.specs.Laid.{join_of, flag_end, bound_end, nodes, nodes_all, Laid, LaidAll}
 use Rattle.nodes.proofs.Words.{put_here, put_other}
 use Rattle.nodes.proofs.Laws.{some_node, tell, at_plain, at_flag, at_bound, Joined, at_join, at_none, move_all}
-use Rattle.asking.specs.Asked.{turned, asked, star_all, onto, gathered, gathered_in, question}
+use Rattle.asking.specs.Asked.{turned, asked, star_all, onto, gathered, gathered_in}
 use Rattle.asking.specs.Asked.{Stars, Among, Sought, Siblings, Stand, Gathers, Asks}
 use Rattle.asking.proofs.Rest.{before_rest, in_rest, put_first}
 use Rattle.asking.proofs.Turned.{turned_end, star_nodes, star_count}

@@ -1,12 +1,10 @@
 -- The question means the critical constraint and the end or its opposite, and its ends are within the limits if the tree's are. Walking
 -- down the path, what is gathered below a node, with the node's own constraint, is the constraint of the end with the end: each step is
 -- that `and` may be regrouped.
-use Prim.Native.Nat.{ℕ, ◌-◌, ◌≤◌, ◌<◌}
+use Prim.Native.Nat.{ℕ, ◌-◌, ◌<◌}
 use mathlib.Core.Path.{◌≡◌, refl, sym, ap, ◌∙◌}
 use mathlib.Core.Bool.{Bool, true, false}
 use native.Mathlib.Omega.{arith}
-use lib.Dec.{ltb}
-use borrow.Author.Tests.{ltb-true, ltb-false}
 use Rattle.condition.specs.Meaning.{Assignment, met, Join, all, any, joined, Tree, plain, leaf, join, Forest, none, more, holds, each, negate}
 use Rattle.condition.specs.Meaning.{End, EndWithin, Formed, FormedAll}
 use Rattle.condition.specs.Satisfying.{Named}

@@ -1,7 +1,7 @@
 -- What each way out of the cycle of `negate` and `negate_all` shows. A tree's first node is opposed and then the trees below it are, one
 -- after the other: those behind are done, those ahead are laid from where the loop stands.
-use Prim.Native.Nat.{ℕ, zero, suc, ◌+◌, ◌-◌, ◌≤◌, ◌<◌, max}
-use mathlib.Core.Path.{◌≡◌, refl, sym, subst, ap, ◌∙◌}
+use Prim.Native.Nat.{ℕ, zero, suc, ◌+◌, ◌-◌, ◌≤◌, ◌<◌}
+use mathlib.Core.Path.{◌≡◌, sym, subst, ap, ◌∙◌}
 use mathlib.Core.List.{List}
 use native.Mathlib.Omega.{arith}
 use lib.ListN.{length, get_or, set, length-set}
@@ -11,7 +11,7 @@ use Rattle.condition.specs.Depth.{deep, deep_all}
 use Rattle.nodes.specs.declared.Node.{Node}
 use Rattle.nodes.specs.Words.{node_of, node_at, size_of, opposed}
 use Rattle.nodes.specs.Laid.{nodes, nodes_all, Laid, LaidAll}
-use Rattle.nodes.proofs.Laws.{some_node, sized}
+use Rattle.nodes.proofs.Laws.{sized}
 use Rattle.condition.proofs.Putting.{split}
 use Rattle.asking.specs.Asked.{Negates, NegatesAll}
 use Rattle.asking.proofs.Rest.{before_rest, in_rest, put_first}

@@ -3,7 +3,7 @@
 use Prim.Native.Nat.{ℕ, ◌+◌, ◌-◌, ◌≤◌, ◌<◌}
 use mathlib.Core.Path.{◌≡◌, refl, sym, subst, ap, ◌∙◌}
 use native.Mathlib.Omega.{arith}
-use Rattle.condition.specs.Meaning.{Tree, Forest, none, more}
+use Rattle.condition.specs.Meaning.{Forest, none, more}
 use Rattle.condition.specs.Folding.{live, live_all}
 use Rattle.nodes.specs.declared.Node.{Node}
 use Rattle.nodes.specs.Words.{size_of}

@@ -12,7 +12,7 @@ use Rattle.condition.specs.Meaning.{End, opposite, Join, all, any, other, Tree, 
 use Rattle.nodes.specs.declared.Node.{Node}
 use Rattle.nodes.specs.declared.Node.TheVariants as node
 use Rattle.nodes.specs.Words.{node_of, node_at, opposed}
-use Rattle.nodes.specs.Laid.{join_of, is_all, flag_end, bound_end, EndIs, nodes, nodes_all, Laid, LaidAll}
+use Rattle.nodes.specs.Laid.{is_all, flag_end, bound_end, EndIs, nodes, nodes_all, Laid, LaidAll}
 use Rattle.nodes.proofs.Laws.{move_all}
 use Rattle.asking.specs.Asked.{turned, star_all, NegatesAll, Stars}
 

@@ -4,7 +4,7 @@ use mathlib.Core.Path.{◌≡◌, ap, ap₂, ◌∙◌}
 use mathlib.Core.List.{List}
 use mathlib.Core.Bool.{cond}
 use lib.IntN.{ℤ}
-use lib.ListN.{length, set}
+use lib.ListN.{set}
 use Rattle.travelring.specs.declared.Judgement.{Judgement}
 use Rattle.travelring.specs.declared.Judged.{Judged}
 use Rattle.travelring.specs.declared.Finding.{Finding}
@@ -13,8 +13,8 @@ use Rattle.travelring.specs.declared.Trimming.{Trimming}
 use Rattle.travelring.specs.declared.Trimmed.{Trimmed}
 use Rattle.travelring.specs.Judging.{judged, told}
 use Rattle.travelring.specs.Finding.{told_found, Finds}
-use Rattle.travelring.specs.Trimming.{outcome, told_trimmed, length_told, Trims}
-use Rattle.boundary.specs.Reports.{Reports, ReportsJudged, ReportsFound, ReportsTrimmed}
+use Rattle.travelring.specs.Trimming.{told_trimmed, length_told, Trims}
+use Rattle.boundary.specs.Reports.{ReportsJudged, ReportsFound, ReportsTrimmed}
 
 pub judge_reports : (s : List ℕ) (flags : ℕ) (numbers : List ℤ) (report : List ℕ) (r : Judged) (j : Judgement) (value : ℕ) →
     told r ≡ judged s flags numbers → j ≡ told r → value ≡ cond j.value 1 0 →

@@ -2,7 +2,7 @@
 -- the rest.
 use Prim.Native.Nat.{ℕ, ◌+◌, ◌-◌, ◌*◌, ◌^◌, ◌≤◌, ◌<◌}
 use mathlib.Core.Path.{◌≡◌, refl, ap, ◌∙◌}
-use mathlib.Core.List.{List, []}
+use mathlib.Core.List.{List}
 use mathlib.Core.Bool.{true, false, ◌&&◌, and-false}
 use native.Mathlib.Nat.{pow-succ', pow-le-pow_right}
 use native.Mathlib.Omega.{arith}

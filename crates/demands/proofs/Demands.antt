@@ -1,6 +1,6 @@
 -- The demands hold: what a call may answer is `outcome` of its input, and of a tree that is read that is what the stated sweep reaches, of
 -- which condition's laws speak. A call that answers 0 or 10 has read a tree and had the room, as every other answer is another number.
-use Prim.Native.Nat.{ℕ, ◌≤◌, ◌<◌, min}
+use Prim.Native.Nat.{ℕ, ◌≤◌, min}
 use mathlib.Core.Path.{◌≡◌, refl, sym, ap, subst, ◌∙◌}
 use mathlib.Core.List.{List}
 use mathlib.Core.Logic.{◌↔◌}
@@ -11,7 +11,7 @@ use lib.Dec.{ltb}
 use lib.IntN.{ℤ}
 use lib.ListN.{length}
 use borrow.Table.Steps.{cases}
-use borrow.Author.Tests.{ltb-true, ltb-false, lt-ltb, le-ltb, eq-eqb, ne_eqb}
+use borrow.Author.Tests.{ltb-true, ltb-false, eq-eqb, ne_eqb}
 use Rattle.condition.specs.Limits.{last_number}
 use Rattle.condition.specs.Answers.{OfReading}
 use Rattle.condition.specs.Meaning.{Assignment, Tree, plain, holds, given}
@@ -19,7 +19,7 @@ use Rattle.condition.specs.Bytes.{bytes}
 use Rattle.condition.specs.Reading.{Read, tree, refusal, read}
 use Rattle.condition.specs.Satisfying.{Satisfiable, InRange}
 use Rattle.condition.specs.Folding.{live}
-use Rattle.condition.specs.Sweep.{Answer, trimmed, needs}
+use Rattle.condition.specs.Sweep.{trimmed, needs}
 use Rattle.condition.proofs.Answers.{apart}
 use Rattle.condition.proofs.Reading.{read_written, written_read, refusals}
 use Rattle.condition.proofs.Critical.{lemma_4, lemma_5}
@@ -34,10 +34,10 @@ use Rattle.travelring.specs.declared.Found.TheVariants as found
 use Rattle.travelring.specs.declared.Trimmed.{Trimmed}
 use Rattle.travelring.specs.declared.Trimmed.TheVariants as trimmed-variants
 use Rattle.travelring.specs.Judging.{judged_tree, told, judged}
-use Rattle.travelring.specs.Finding.{told_found, FindsTree, FindsRead, Finds}
-use Rattle.travelring.specs.Trimming.{Outcome, refuses, ended, fitted, outcome_read, outcome, told_trimmed, length_told, onto, Trims, ended_by}
+use Rattle.travelring.specs.Finding.{told_found, FindsTree, FindsRead}
+use Rattle.travelring.specs.Trimming.{Outcome, refuses, ended, fitted, outcome, told_trimmed, length_told, onto, Trims, ended_by}
 use Rattle.travelring.proofs.Outcomes.{by_read, too_long, fits, told_ended, long_ended}
-use Rattle.demands.specs.Demands.{TrimCall, JudgeCall, FindCall, said, four, result, Room, TrimTable, JudgeTable, FindTable}
+use Rattle.demands.specs.Demands.{TrimCall, JudgeCall, FindCall, said, result, Room, TrimTable, JudgeTable, FindTable}
 use Rattle.demands.specs.Demands.{Demand1, Finished, Writes, finished, stopped, Written, Demand2, Demand3}
 use Rattle.demands.proofs.Finding.{find_answers}
 

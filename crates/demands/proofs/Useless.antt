@@ -1,20 +1,19 @@
 -- No useless version meets the contract. What is written is the bytes of one tree, as no tree's bytes begin with another's; so what false,
 -- the input or a half-done work would show is refuted by what demand 2 says of the tree written.
-use Prim.Native.Nat.{ℕ, ◌+◌, ◌*◌, ◌≤◌, ◌<◌, min}
+use Prim.Native.Nat.{ℕ, ◌≤◌, ◌<◌, min}
 use mathlib.Core.Path.{◌≡◌, refl, sym, ap, subst, ◌∙◌}
 use mathlib.Core.Bool.{Bool, true, false, cond, true≢false}
 use native.Mathlib.Omega.{arith}
 use lib.IntN.{pos}
-use lib.ListN.{length, drop}
-use Rattle.condition.specs.Limits.{most_ends, longest_tree}
+use lib.ListN.{length}
+use Rattle.condition.specs.Limits.{longest_tree}
 use Rattle.condition.specs.Meaning.{at_most, Tree, plain, leaf, holds, ends, Formed, Within}
-use Rattle.condition.specs.Bytes.{Octets, bytes}
+use Rattle.condition.specs.Bytes.{bytes}
 use Rattle.condition.specs.Reading.{tree, read}
 use Rattle.condition.specs.Satisfying.{Satisfiable}
-use Rattle.condition.specs.Folding.{fold, live}
+use Rattle.condition.specs.Folding.{live}
 use Rattle.condition.specs.Critical.{both, Firm}
-use Rattle.condition.specs.Sweep.{trimmed, needs}
-use Rattle.condition.specs.Counting.{Sweeps}
+use Rattle.condition.specs.Sweep.{trimmed}
 use Rattle.condition.proofs.Reading.{read_written, one_start, longest, bytes_octets}
 use Rattle.condition.proofs.Trimmed.{needs_most, trimmed_within}
 use Rattle.condition.proofs.Count.{count_fixed}

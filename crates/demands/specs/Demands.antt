@@ -1,11 +1,11 @@
 -- The user's demands (document 00, item 4), said of every outcome that the public calls' contracts allow, for every input. Each clause
 -- stands under the demand's own words; nothing is assumed.
-use Rattle.std.specs.Prelude.{ℕ, ◌+◌, ◌*◌, ◌≤◌, ◌<◌, min, ◌≡◌, List, ◌↔◌, Bool, true, false, cond, ℤ, length}
+use Rattle.std.specs.Prelude.{ℕ, ◌+◌, ◌*◌, ◌≤◌, ◌<◌, min, ◌≡◌, List, ◌↔◌, true, false, cond, ℤ, length}
 use Rattle.condition.specs.Limits.{last_number}
 use Rattle.condition.specs.Answers.{OfReading}
 use Rattle.condition.specs.Meaning.{Assignment, Tree, plain, leaf, holds, negate, ends, given}
 use Rattle.condition.specs.Bytes.{Octets, bytes}
-use Rattle.condition.specs.Reading.{Read, tree, refusal, read}
+use Rattle.condition.specs.Reading.{tree, refusal, read}
 use Rattle.condition.specs.Satisfying.{Satisfiable, InRange}
 use Rattle.condition.specs.Folding.{fold, live}
 use Rattle.condition.specs.Critical.{end_at, critical, Implies, NonConstraining, NonRelaxing}

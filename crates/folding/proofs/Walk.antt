@@ -1,17 +1,17 @@
 -- The walk, one law a way out. What the node at i says of the tree laid there gives the folded tree from what the calls below wrote;
 -- where nothing is left, or a child is longer than what is left, no tree is laid that fits. A kept child stands before the others.
-use Prim.Native.Nat.{ℕ, ◌+◌, ◌-◌, ◌/◌, ◌%◌, ◌≤◌, ◌<◌}
+use Prim.Native.Nat.{ℕ, ◌+◌, ◌-◌, ◌≤◌, ◌<◌}
 use mathlib.Core.Path.{◌≡◌, refl, sym, subst, ap, ◌∙◌}
 use mathlib.Core.List.{List}
 use mathlib.Core.Bool.{Bool, true, false, cond}
 use native.Mathlib.Omega.{arith}
-use lib.Dec.{eqb, ltb}
+use lib.Dec.{eqb}
 use lib.ListN.{length, set}
 use Rattle.condition.specs.Meaning.{End, Join, Tree, plain, leaf, join, Forest, count}
 use Rattle.condition.specs.Folding.{Left, decided, these, keep, drop, fold, fold_all, live, live_all}
 use Rattle.nodes.specs.declared.Node.{Node}
 use Rattle.nodes.specs.declared.Node.TheVariants as node
-use Rattle.nodes.specs.Words.{word_of, by_tag, node_of, node_at, size_of, Fits}
+use Rattle.nodes.specs.Words.{word_of, node_at, size_of, Fits}
 use Rattle.nodes.specs.Laid.{join_of, flag_end, bound_end, EndIs, nodes, nodes_all, Laid, LaidAll}
 use Rattle.nodes.proofs.Words.{read_fits}
 use Rattle.nodes.proofs.Laws.{tell, some_node, sized, at_plain, at_flag, at_bound, at_join, at_none, at_more, move}

@@ -1,7 +1,7 @@
 -- What a part of the reading shows of what document 01 has read there, and what the whole reading leaves.
 use Rattle.std.specs.Prelude.{ℕ, ◌+◌, ◌*◌, ◌≤◌, ◌<◌, ◌≡◌, List, length}
 use Rattle.condition.specs.Limits.{most_ends, tree_room}
-use Rattle.condition.specs.Meaning.{Tree, leaf, ends, ends_all}
+use Rattle.condition.specs.Meaning.{leaf, ends, ends_all}
 use Rattle.condition.specs.Reading.{Reading, got, refused, then, read_end, read_tree, read_all, Read, tree, refusal}
 use Rattle.cursor.specs.declared.Cursor.{Cursor}
 use Rattle.cursor.specs.declared.Refusal.TheVariants.{Ended}

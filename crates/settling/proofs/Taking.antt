@@ -9,7 +9,7 @@ use native.Mathlib.Omega.{arith}
 use lib.ListN.{length, set, length-set}
 use lib.Seq.{get_or-set_same, get_or-set_other}
 use Rattle.condition.specs.Limits.{question_room}
-use Rattle.condition.specs.Meaning.{Assignment, all, any, Tree, join, Forest, none, more, holds, each}
+use Rattle.condition.specs.Meaning.{Assignment, all, any, Tree, join, Forest, more, holds, each}
 use Rattle.condition.specs.Satisfying.{Named, NamedAll}
 use Rattle.nodes.specs.declared.Node.{Node}
 use Rattle.nodes.specs.declared.Node.TheVariants as node

@@ -15,7 +15,6 @@ use Rattle.condition.proofs.Reading.{octets, read_written}
 use Rattle.condition.proofs.Trimmed.{trimmed_within}
 use Rattle.cursor.specs.declared.Refusal.{Refusal}
 use Rattle.nodes.specs.Words.{node_at}
-use Rattle.nodes.specs.Laid.{nodes}
 use Rattle.nodes.proofs.Laws.{nodes_few}
 use Rattle.reading.specs.declared.Answer.{Answer as Held}
 use Rattle.reading.specs.declared.Answer.TheVariants as held

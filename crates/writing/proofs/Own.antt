@@ -1,15 +1,13 @@
 -- A node's own bytes as code writes them, by the kinds of node, and that there are at most twelve: four numbers of three.
-use Prim.Native.Nat.{ℕ, zero, suc, ◌+◌, ◌*◌, ◌-◌, ◌/◌, ◌≤◌, ◌<◌}
+use Prim.Native.Nat.{ℕ, ◌+◌, ◌*◌, ◌-◌, ◌≤◌, ◌<◌}
 use mathlib.Core.Path.{◌≡◌, refl}
 use mathlib.Core.List.{List, ◌++◌, append_assoc}
 use mathlib.Core.Bool.{Bool, true, false, cond, not}
 use native.Mathlib.Omega.{arith}
-use lib.Dec.{ltb}
 use lib.ListN.{length, length-append}
-use borrow.Table.Steps.{cases}
 use borrow.Author.Tests.{lt-ltb, le-ltb}
 use Rattle.condition.specs.Limits.{largest_bound, groups}
-use Rattle.condition.specs.Bytes.{groups_of, number, written, end_bytes}
+use Rattle.condition.specs.Bytes.{number, written, end_bytes}
 use Rattle.condition.proofs.Reading.{number_length}
 use Rattle.nodes.specs.declared.Node.{Node}
 use Rattle.nodes.specs.declared.Node.TheVariants as node

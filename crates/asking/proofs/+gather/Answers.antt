@@ -3,7 +3,6 @@ use mathlib.Core.Path.{sym, ◌∙◌}
 use native.Mathlib.Omega.{arith}
 use borrow.Author.Rules.{rules}
 use Rattle.asking.proofs.Gathering as ways
-use Prim.Native.Nat.{ℕ, ◌<◌}
 use Rattle.asking.proofs.+gather.Goals as goal
 
 pub returns-then-n-eq0 : goal.returns-then-n-eq0

@@ -1,9 +1,4 @@
 -- `asking::gather` meets its contract; the connectives that may still nest fall. Each way out is a law of Gathering.antt.
-use mathlib.Core.Path.{sym, ◌∙◌}
-use native.Mathlib.Omega.{arith}
-use borrow.Author.Rules.{rules}
-use Rattle.asking.proofs.Gathering as ways
-use Prim.Native.Nat.{ℕ, ◌<◌}
 use Rattle.asking.proofs.+gather.Given as goal
 
 abbrev pub decreases-gather : goal.decreases-gather

@@ -1,16 +1,11 @@
 -- `asking::negate` and `asking::negate_all` meet their contracts, a cycle of calls in which the connectives that may still nest fall. Each
 -- way out is a law of Negating.antt.
-use Prim.Native.Nat.{◌+◌, ◌-◌, ◌*◌}
-use mathlib.Core.Path.{◌≡◌, refl, ap, ◌∙◌}
+use mathlib.Core.Path.{refl}
 use native.Mathlib.Omega.{arith}
-use lib.ListN.{length, set, length-set}
-use borrow.Rule.Slice.PartMut.{same_len_mid}
+use lib.ListN.{length-set}
 use borrow.Author.Rules.{rules}
-use Rattle.nodes.specs.Words.{node_at, node_of, opposed}
-use Rattle.asking.proofs.Rest.{before_rest, in_rest, put_first}
 use Rattle.asking.proofs.Negating as ways
 use Rattle.asking.proofs.Negating.{Negated}
-use Prim.Native.Nat.{ℕ, ◌<◌}
 use Rattle.asking.proofs.+negate_negate_all.Goals as goal
 
 pub negate-word_at-requires : goal.negate-word_at-requires

@@ -3,7 +3,6 @@ use Prim.Native.Nat.{◌-◌}
 use native.Mathlib.Omega.{arith}
 use lib.ListN.{length}
 use Rattle.asking.proofs.Gathering as ways
-use borrow.Author.Rules.{rules}
 use Rattle.asking.proofs.ask.Goals as goal
 
 pub returns-then-n-ge-QUESTION_ROOM : goal.returns-then-n-ge-QUESTION_ROOM

@@ -1,11 +1,7 @@
 -- `asking::copy` meets its contract: after k words the first k of the output are those from i on.
-use Prim.Native.Nat.{ℕ, ◌+◌, ◌-◌, ◌≤◌, ◌<◌}
-use mathlib.Core.Path.{◌≡◌, refl, ap, ◌∙◌}
-use mathlib.Core.List.{List}
+use mathlib.Core.Path.{refl}
 use native.Mathlib.Omega.{arith}
-use lib.ListN.{length, get_or}
-use borrow.Author.Rules.{rules}
-use Rattle.asking.proofs.Turned.{Copied, copied_none, copied_more}
+use Rattle.asking.proofs.Turned.{copied_none, copied_more}
 use Rattle.asking.proofs.copy.Goals as goal
 
 pub loop-k-init : goal.loop-k-init

@@ -1,11 +1,6 @@
 -- `asking::copy` meets its contract: after k words the first k of the output are those from i on.
-use Prim.Native.Nat.{ℕ, ◌+◌, ◌-◌, ◌≤◌, ◌<◌}
-use mathlib.Core.Path.{◌≡◌, refl, ap, ◌∙◌}
-use mathlib.Core.List.{List}
-use native.Mathlib.Omega.{arith}
-use lib.ListN.{length, get_or}
-use borrow.Author.Rules.{rules}
-use Rattle.asking.proofs.Turned.{Copied, copied_none, copied_more}
+use Prim.Native.Nat.{◌-◌}
+use Rattle.asking.proofs.Turned.{Copied}
 use Rattle.asking.proofs.copy.Given as goal
 
 abbrev pub invariant-loop-k : goal.invariant-loop-k

@@ -1,11 +1,8 @@
 -- `asking::ends` meets its contract: after k nodes their ends are counted (EndsCounted.antt).
-use Prim.Native.Nat.{◌-◌}
 use mathlib.Core.Path.{ap, ◌∙◌}
 use native.Mathlib.Omega.{arith}
-use borrow.Author.Rules.{rules}
-use Rattle.nodes.specs.Words.{node_at}
 use Rattle.asking.specs.Asked.{ends_from}
-use Rattle.asking.proofs.EndsCounted.{Counted, counted_none, counted_more, at_most_one}
+use Rattle.asking.proofs.EndsCounted.{counted_none, counted_more, at_most_one}
 use Rattle.asking.proofs.ends.Goals as goal
 
 pub loop-k-init : goal.loop-k-init

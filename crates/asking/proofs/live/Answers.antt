@@ -1,7 +1,6 @@
 -- `asking::live` meets its contract: the ends of a tree are those of its nodes (EndsCounted.antt).
 use native.Mathlib.Omega.{arith}
 use Rattle.asking.proofs.EndsCounted.{lives}
-use borrow.Author.Rules.{rules}
 use Rattle.asking.proofs.live.Goals as goal
 
 pub returns-then-n-gt-QUESTION_ROOM : goal.returns-then-n-gt-QUESTION_ROOM

@@ -1,9 +1,7 @@
 -- `asking::seek` meets its contract: the trees passed have the ends before the one sought (Seeking.antt).
 use Prim.Native.Nat.{◌-◌}
-use native.Mathlib.Omega.{arith}
-use borrow.Author.Rules.{rules}
 use Rattle.nodes.specs.Words.{node_at}
-use Rattle.asking.proofs.Seeking.{Seeking, seek_none, seek_over, seek_beyond, seek_found, seek_on}
+use Rattle.asking.proofs.Seeking.{Seeking}
 use Rattle.asking.proofs.seek.Given as goal
 
 abbrev pub invariant-loop-at : goal.invariant-loop-at

@@ -1,9 +1,6 @@
 -- `asking::siblings` meets its contract: the elder siblings, and after them the younger (Gathering.antt).
-use Prim.Native.Nat.{◌+◌, ◌-◌}
 use native.Mathlib.Omega.{arith}
-use lib.ListN.{length}
 use Rattle.asking.proofs.Gathering.{siblings_lent}
-use borrow.Author.Rules.{rules}
 use Rattle.asking.proofs.siblings.Goals as goal
 
 pub returns : goal.returns

@@ -1,6 +1,5 @@
 -- `asking::star` meets its contract: trees are copied below an `and`, negated below an `or` (Turned.antt).
 use Rattle.asking.proofs.Turned.{stars_copied, stars_negated}
-use borrow.Author.Rules.{rules}
 use Rattle.asking.proofs.star.Goals as goal
 
 pub returns-then-all : goal.returns-then-all

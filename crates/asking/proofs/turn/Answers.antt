@@ -2,7 +2,6 @@
 use mathlib.Core.Path.{sym, ap, ◌∙◌}
 use Rattle.nodes.specs.Words.{node_of}
 use Rattle.asking.specs.Asked.{turned}
-use borrow.Author.Rules.{rules}
 use Rattle.asking.proofs.turn.Goals as goal
 
 pub returns-then-opposite : goal.returns-then-opposite

@@ -1,6 +1,5 @@
 -- `travelring_find` meets its contract: what find answers, told, two of its numbers in the report.
 use Rattle.boundary.proofs.Reporting.{find_reports}
-use borrow.Author.Rules.{rules}
 use Rattle.boundary.proofs.travelring_find.Goals as goal
 
 pub returns : goal.returns

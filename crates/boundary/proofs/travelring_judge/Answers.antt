@@ -1,6 +1,5 @@
 -- `travelring_judge` meets its contract: what judge answers, told, two of its numbers in the report.
 use Rattle.boundary.proofs.Reporting.{judge_reports}
-use borrow.Author.Rules.{rules}
 use Rattle.boundary.proofs.travelring_judge.Goals as goal
 
 pub returns : goal.returns

@@ -1,6 +1,5 @@
 -- `travelring_trim` meets its contract: what trim answers, told, three of its numbers and the length in the report.
 use Rattle.boundary.proofs.Reporting.{trim_reports}
-use borrow.Author.Rules.{rules}
 use Rattle.boundary.proofs.travelring_trim.Goals as goal
 
 pub returns : goal.returns

@@ -4,7 +4,6 @@ use native.Mathlib.Omega.{arith}
 use Rattle.condition.specs.Limits.{largest_bound}
 use Rattle.differences.specs.Table.{offset}
 use Rattle.differences.proofs.Bounds.{adds_negated}
-use borrow.Author.Rules.{rules}
 use Rattle.differences.proofs.add_above.Goals as goal
 
 pub returns : goal.returns

@@ -1,11 +1,8 @@
 -- `differences::lower_row` meets its contract. The loop's invariant: the row's cells before j are lowered, all others are as they were.
-use Prim.Native.Nat.{◌+◌, ◌-◌, ◌*◌, ◌≤◌}
 use mathlib.Core.Path.{◌≡◌}
 use native.Mathlib.Omega.{arith}
 use native.Mathlib.Nat.{add-zero}
-use borrow.Author.Rules.{rules}
 use Rattle.differences.specs.Table.{numbers}
-use Rattle.differences.specs.Rows.{Part, lowered}
 use Rattle.differences.proofs.Parts.{part_none}
 use Rattle.differences.proofs.Row.{other_row, row_more}
 use Rattle.differences.proofs.lower_row.Goals as goal

@@ -2,7 +2,6 @@
 use mir.Syntax.{w32}
 use mir.Facts.{to_z_pos, to_z-of_z}
 use Rattle.differences.proofs.Shown.{read_fits, shown, shown_fits}
-use borrow.Author.Rules.{rules}
 use Rattle.differences.proofs.number.Goals as goal
 
 pub overflow_cast-result : goal.overflow_cast-result

@@ -1,8 +1,5 @@
 -- `differences::start` meets its contract: each turn makes the entries of one number (Starts.antt).
-use Prim.Native.Nat.{◌-◌}
-use borrow.Author.Rules.{rules}
-use Rattle.differences.specs.Table.{numbers}
-use Rattle.differences.proofs.Starts.{Begun, begun_none, begun_more, starts}
+use Rattle.differences.proofs.Starts.{begun_none, begun_more, starts}
 use Rattle.differences.proofs.start.Goals as goal
 
 pub loop-i-init : goal.loop-i-init

@@ -1,8 +1,7 @@
 -- `differences::start` meets its contract: each turn makes the entries of one number (Starts.antt).
 use Prim.Native.Nat.{◌-◌}
-use borrow.Author.Rules.{rules}
 use Rattle.differences.specs.Table.{numbers}
-use Rattle.differences.proofs.Starts.{Begun, begun_none, begun_more, starts}
+use Rattle.differences.proofs.Starts.{Begun}
 use Rattle.differences.proofs.start.Given as goal
 
 abbrev pub invariant-loop-i : goal.invariant-loop-i

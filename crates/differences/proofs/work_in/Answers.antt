@@ -1,12 +1,8 @@
 -- `differences::work_in` meets its contract. The loop's invariant: the rows before i are lowered, all others are as they were.
-use Prim.Native.Nat.{◌-◌}
-use mathlib.Core.Logic.{⊎_elim}
 use native.Mathlib.Omega.{arith}
-use borrow.Author.Rules.{rules}
-use Rattle.differences.specs.Table.{numbers}
 use Rattle.differences.proofs.Lowered.{between_upper, refuses, nothing_new, adds}
 use Rattle.differences.proofs.Parts.{part_none}
-use Rattle.differences.proofs.Rows.{LoweredTo, lowers, row_upper, row_lowered, row_left, rows_added}
+use Rattle.differences.proofs.Rows.{lowers, row_upper, row_lowered, row_left, rows_added}
 use Rattle.differences.proofs.work_in.Goals as goal
 use Rattle.differences.proofs.work_in.Goals.{then-left-t, else-left-t}
 

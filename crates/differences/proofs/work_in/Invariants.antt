@@ -1,12 +1,7 @@
 -- `differences::work_in` meets its contract. The loop's invariant: the rows before i are lowered, all others are as they were.
 use Prim.Native.Nat.{◌-◌}
-use mathlib.Core.Logic.{⊎_elim}
-use native.Mathlib.Omega.{arith}
-use borrow.Author.Rules.{rules}
 use Rattle.differences.specs.Table.{numbers}
-use Rattle.differences.proofs.Lowered.{between_upper, refuses, nothing_new, adds}
-use Rattle.differences.proofs.Parts.{part_none}
-use Rattle.differences.proofs.Rows.{LoweredTo, lowers, row_upper, row_lowered, row_left, rows_added}
+use Rattle.differences.proofs.Rows.{LoweredTo}
 use Rattle.differences.proofs.work_in.Given as goal
 
 abbrev pub invariant-loop-i : goal.invariant-loop-i

@@ -1,9 +1,7 @@
 -- `folding::node` and `folding::children` meet their contracts, a cycle of calls in which the nodes left fall: `node` spends one,
 -- `children` at least one a child. Each way out is a law of Walk.antt.
-use Prim.Native.Nat.{ℕ, ◌+◌, ◌*◌, ◌<◌}
 use mathlib.Core.Path.{refl, sym, ◌∙◌}
 use native.Mathlib.Omega.{arith}
-use borrow.Author.Rules.{rules}
 use Rattle.folding.proofs.Walk as walk
 use Rattle.folding.proofs.+children_node.Goals as goal
 

@@ -1,10 +1,6 @@
 -- `folding::node` and `folding::children` meet their contracts, a cycle of calls in which the nodes left fall: `node` spends one,
 -- `children` at least one a child. Each way out is a law of Walk.antt.
-use Prim.Native.Nat.{ℕ, ◌+◌, ◌*◌, ◌<◌}
-use mathlib.Core.Path.{refl, sym, ◌∙◌}
-use native.Mathlib.Omega.{arith}
-use borrow.Author.Rules.{rules}
-use Rattle.folding.proofs.Walk as walk
+use Prim.Native.Nat.{◌+◌, ◌*◌}
 use Rattle.folding.proofs.+children_node.Given as goal
 
 abbrev pub decreases-children : goal.decreases-children

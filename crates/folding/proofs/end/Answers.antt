@@ -1,6 +1,5 @@
 -- `folding::end` meets its contract: the constant is put where the cut is 1, the end itself elsewhere.
 use Rattle.folding.proofs.Puts.{end_cut, end_kept}
-use borrow.Author.Rules.{rules}
 use Rattle.folding.proofs.end.Goals as goal
 
 pub returns-then-cut-eq1 : goal.returns-then-cut-eq1

@@ -1,7 +1,6 @@
 -- `folding::fold` meets its contract: the walk begins at node 0, with n nodes left, and the cut it hands on is the replacement.
 use native.Mathlib.Omega.{arith}
 use Rattle.folding.proofs.Walk.{whole_folded}
-use borrow.Author.Rules.{rules}
 use Rattle.folding.proofs.fold.Goals as goal
 
 pub returns-then-n-gt-TREE_ROOM : goal.returns-then-n-gt-TREE_ROOM

@@ -1,7 +1,6 @@
 -- `folding::shut` meets its contract: each way out is a law of Puts.antt.
 use native.Mathlib.Omega.{arith}
 use Rattle.folding.proofs.Puts.{shut_decided, shut_none, shut_one, shut_more}
-use borrow.Author.Rules.{rules}
 use Rattle.folding.proofs.shut.Goals as goal
 
 pub returns-then-left : goal.returns-then-left

@@ -1,8 +1,6 @@
 -- `folding::slide` meets its contract: each turn moves one more node.
 use Prim.Native.Nat.{◌-◌}
-use native.Mathlib.Omega.{arith}
-use borrow.Author.Rules.{rules}
-use Rattle.folding.proofs.Sliding.{Sliding, begun, step, slid}
+use Rattle.folding.proofs.Sliding.{Sliding}
 use Rattle.folding.proofs.slide.Given as goal
 
 abbrev pub invariant-loop-k : goal.invariant-loop-k

@@ -1,8 +1,6 @@
 -- `judging::node` and `judging::children` meet their contracts, a cycle of calls in which the nodes left fall: `node` spends one,
 -- `children` at least one a child. Each way out is a law of Walk.antt.
-use Prim.Native.Nat.{ℕ, ◌+◌, ◌*◌, ◌<◌}
-use borrow.Author.Rules.{rules}
-use Rattle.judging.proofs.Walk as walk
+use Prim.Native.Nat.{◌+◌, ◌*◌}
 use Rattle.judging.proofs.+children_node.Given as goal
 
 abbrev pub decreases-children : goal.decreases-children

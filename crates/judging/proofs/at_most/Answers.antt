@@ -1,7 +1,6 @@
 -- `judging::at_most` meets its contract: the difference of two numbers of 32 bits fits an i64.
 use Rattle.judging.proofs.Signed.{signed_fits}
 use Rattle.judging.proofs.Ends.{at_most_is}
-use borrow.Author.Rules.{rules}
 use Rattle.judging.proofs.at_most.Goals as goal
 
 pub overflow_sub-result : goal.overflow_sub-result

@@ -1,6 +1,5 @@
 -- `judging::difference` meets its contract: a difference of two u32 fits an i64.
 use Rattle.judging.proofs.Signed.{unsigned_fits, unsigned_is}
-use borrow.Author.Rules.{rules}
 use Rattle.judging.proofs.difference.Goals as goal
 
 pub overflow_sub-result : goal.overflow_sub-result

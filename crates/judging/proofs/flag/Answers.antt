@@ -1,6 +1,5 @@
 -- `judging::flag` meets its contract: past 31 every bit is 0.
 use Rattle.judging.proofs.Ends.{bit_is, no_bit}
-use borrow.Author.Rules.{rules}
 use Rattle.judging.proofs.flag.Goals as goal
 
 pub returns-then-p-le-LAST_BOOLEAN : goal.returns-then-p-le-LAST_BOOLEAN

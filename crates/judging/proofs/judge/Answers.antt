@@ -1,6 +1,5 @@
 -- `judging::judge` meets its contract: the walk begins at node 0, with n nodes left.
 use native.Mathlib.Omega.{arith}
-use borrow.Author.Rules.{rules}
 use Rattle.judging.proofs.judge.Goals as goal
 
 pub returns-then-n-gt-QUESTION_ROOM : goal.returns-then-n-gt-QUESTION_ROOM

@@ -1,6 +1,5 @@
 -- `judging::number` meets its contract: an i32 fits an i64, and past the end of the slice a number is 0.
 use Rattle.judging.proofs.Ends.{zero_is, found_is, found_fits, missing_is}
-use borrow.Author.Rules.{rules}
 use Rattle.judging.proofs.number.Goals as goal
 
 pub returns-then-x-eq0 : goal.returns-then-x-eq0

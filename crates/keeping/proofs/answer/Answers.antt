@@ -1,6 +1,5 @@
 -- `keeping::answer` meets its contract: the question is known after the recall, or the search answers it (Knowing.antt).
 use Rattle.keeping.proofs.Knowing.{learns_more, fifteen, recalled, searched}
-use borrow.Author.Rules.{rules}
 use Rattle.keeping.proofs.answer.Goals as goal
 
 pub returns-then-known-q-eq1 : goal.returns-then-known-q-eq1

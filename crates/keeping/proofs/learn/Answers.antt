@@ -2,7 +2,6 @@
 use mathlib.Core.Path.{refl}
 use native.Mathlib.Omega.{arith}
 use Rattle.keeping.proofs.Knowing.{learned}
-use borrow.Author.Rules.{rules}
 use Rattle.keeping.proofs.learn.Goals as goal
 
 pub note-requires : goal.note-requires

@@ -1,9 +1,6 @@
 -- `keeping::note` meets its contract: each turn makes a question known that a mark answers, or none (Knowing.antt).
-use Prim.Native.Nat.{◌-◌, ◌*◌}
 use mathlib.Core.Path.{◌∙◌}
 use native.Mathlib.Omega.{arith}
-use borrow.Author.Rules.{rules}
-use Rattle.keeping.specs.Kept.{Notes}
 use Rattle.keeping.proofs.Knowing.{notes_none, notes_one}
 use Rattle.keeping.proofs.note.Goals as goal
 use Rattle.keeping.proofs.note.Goals.{then-marks-q, else-marks-q}

@@ -1,8 +1,5 @@
 -- `keeping::recall` meets its contract: each turn learns from one more assignment (Knowing.antt).
-use Prim.Native.Nat.{◌-◌}
 use native.Mathlib.Omega.{arith}
-use Rattle.nodes.specs.Words.{node_at}
-use Rattle.keeping.specs.Kept.{Learns}
 use Rattle.keeping.proofs.Knowing.{learns_none, learns_more}
 use Rattle.keeping.proofs.recall.Goals as goal
 

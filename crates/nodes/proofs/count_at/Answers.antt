@@ -1,7 +1,6 @@
 -- `nodes::count_at` meets its contract: in each arm the node is the one matched.
 use mathlib.Core.Path.{sym, ◌∙◌, ap}
 use Rattle.nodes.specs.Words.{count_of}
-use borrow.Author.Rules.{rules}
 use Rattle.nodes.proofs.count_at.Goals as goal
 
 pub returns-in-Join : goal.returns-in-Join

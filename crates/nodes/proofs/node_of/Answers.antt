@@ -1,7 +1,6 @@
 -- `nodes::node_of` meets its contract: each return is the case of `by_tag` that its tests pick.
 use borrow.Author.Tests.{lt-ltb, le-ltb}
 use Rattle.nodes.specs.Words.{node_of}
-use borrow.Author.Rules.{rules}
 use Rattle.nodes.proofs.node_of.Goals as goal
 
 pub returns-then-g-lt2 : goal.returns-then-g-lt2

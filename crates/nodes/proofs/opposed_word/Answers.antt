@@ -1,7 +1,6 @@
 -- `nodes::opposed_word` meets its contract: the word beside an even one is the same node opposed, and the other way round (Words.antt).
 use mathlib.Core.Path.{refl}
 use Rattle.nodes.proofs.Words.{even_opposed, odd_opposed}
-use borrow.Author.Rules.{rules}
 use Rattle.nodes.proofs.opposed_word.Goals as goal
 
 pub returns-then-w-eq0 : goal.returns-then-w-eq0

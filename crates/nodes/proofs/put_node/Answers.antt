@@ -1,7 +1,6 @@
 -- `nodes::put_node` meets its contract: past the end a `set` changes nothing.
 use lib.Seq.{set_out}
 use mathlib.Core.Path.{sym}
-use borrow.Author.Rules.{rules}
 use Rattle.nodes.proofs.put_node.Goals as goal
 
 pub returns-then-i-ns : goal.returns-then-i-ns

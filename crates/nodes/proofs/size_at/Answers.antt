@@ -2,7 +2,6 @@
 use mathlib.Core.Path.{sym, ◌∙◌, ap}
 use native.Mathlib.Omega.{arith}
 use Rattle.nodes.specs.Words.{size_of}
-use borrow.Author.Rules.{rules}
 use Rattle.nodes.proofs.size_at.Goals as goal
 
 pub returns-in-Join : goal.returns-in-Join

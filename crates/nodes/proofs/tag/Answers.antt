@@ -1,5 +1,4 @@
 -- `nodes::tag` meets its contract.
-use borrow.Author.Rules.{rules}
 use Rattle.nodes.proofs.tag.Goals as goal
 
 pub returns-else-so : goal.returns-else-so

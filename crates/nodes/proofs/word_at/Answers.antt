@@ -1,7 +1,6 @@
 -- `nodes::word_at` meets its contract: past the end `get_or` gives 0.
 use mathlib.Core.Path.{sym}
 use lib.ListN.{get_or-eq_default}
-use borrow.Author.Rules.{rules}
 use Rattle.nodes.proofs.word_at.Goals as goal
 
 pub returns : goal.returns

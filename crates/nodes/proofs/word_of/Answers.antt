@@ -1,5 +1,4 @@
 -- `nodes::word_of` meets its contract: each arm packs the parts that `word_of` names.
-use borrow.Author.Rules.{rules}
 use Rattle.nodes.proofs.word_of.Goals as goal
 
 pub returns-in-Plain : goal.returns-in-Plain

@@ -1,15 +1,7 @@
 -- `reading::node` and `reading::children` meet their contracts: each way out is one of Ways.antt. The bytes left fall: a node is read
 -- past its tag before its children, and each child is read before its younger siblings.
 use Prim.Native.Nat.{◌+◌, ◌-◌, ◌*◌}
-use mathlib.Core.Path.{subst}
-use native.Mathlib.Omega.{arith}
 use lib.ListN.{length}
-use borrow.Author.Rules.{rules}
-use Rattle.cursor.proofs.Steps.{up_to_taken, count_taken}
-use Rattle.reading.specs.Parts.{NodeRight, ChildrenRight}
-use Rattle.reading.proofs.Equations as eq
-use Rattle.reading.proofs.Ways as ways
-use Prim.Native.Nat.{ℕ, ◌<◌}
 use Rattle.reading.proofs.+children_node.Given as goal
 
 abbrev pub decreases-children : goal.decreases-children

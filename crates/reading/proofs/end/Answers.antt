@@ -3,7 +3,6 @@ use native.Mathlib.Omega.{arith}
 use Rattle.cursor.proofs.Steps.{up_to_taken}
 use Rattle.reading.proofs.Equations as eq
 use Rattle.reading.proofs.Ways as ways
-use borrow.Author.Rules.{rules}
 use Rattle.reading.proofs.end.Goals as goal
 
 pub returns-in_default : goal.returns-in_default

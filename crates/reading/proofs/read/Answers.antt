@@ -1,6 +1,5 @@
 -- `reading::read` meets its contract: the root is read from byte 0 into node 0, and then the bytes must end.
 use Rattle.reading.proofs.Ways as ways
-use borrow.Author.Rules.{rules}
 use Rattle.reading.proofs.read.Goals as goal
 
 pub returns-in_default : goal.returns-in_default

@@ -1,5 +1,4 @@
 -- `reading::refused` meets its contract: a case of the part each.
-use borrow.Author.Rules.{rules}
 use Rattle.reading.proofs.refused.Goals as goal
 
 pub returns-in_default : goal.returns-in_default

@@ -1,6 +1,5 @@
 -- `reading::shift` meets its contract: c and c + 1,000,000 differ by 1,000,000, for either sign.
 use Rattle.reading.proofs.Bounds.{even, odd}
-use borrow.Author.Rules.{rules}
 use Rattle.reading.proofs.shift.Goals as goal
 
 pub returns-then-w-eq0 : goal.returns-then-w-eq0

@@ -1,5 +1,4 @@
 -- `reading::stopped` meets its contract: a case of the step each.
-use borrow.Author.Rules.{rules}
 use Rattle.reading.proofs.stopped.Goals as goal
 
 pub returns-in_default : goal.returns-in_default

@@ -1,10 +1,8 @@
 -- `settling::guess`, `attempt` and `any` meet their contracts: each way out is one of Guessing.antt. `left` falls with each call.
 use native.Mathlib.Omega.{arith}
-use borrow.Author.Rules.{rules}
 use borrow.Author.Tests.{not-true, not-false}
 use Rattle.settling.proofs.Taking.{many_few}
 use Rattle.settling.proofs.Guessing as guessing
-use Prim.Native.Nat.{ℕ, ◌<◌}
 use Rattle.settling.proofs.+any_attempt_guess.Goals as goal
 
 pub any-returns-then-left-eq0 : goal.any-returns-then-left-eq0

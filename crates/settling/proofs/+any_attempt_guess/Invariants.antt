@@ -1,10 +1,4 @@
 -- `settling::guess`, `attempt` and `any` meet their contracts: each way out is one of Guessing.antt. `left` falls with each call.
-use native.Mathlib.Omega.{arith}
-use borrow.Author.Rules.{rules}
-use borrow.Author.Tests.{not-true, not-false}
-use Rattle.settling.proofs.Taking.{many_few}
-use Rattle.settling.proofs.Guessing as guessing
-use Prim.Native.Nat.{ℕ, ◌<◌}
 use Rattle.settling.proofs.+any_attempt_guess.Given as goal
 
 abbrev pub decreases-any : goal.decreases-any

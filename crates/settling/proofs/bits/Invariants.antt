@@ -1,6 +1,4 @@
 -- `settling::bits` meets its contract: from the highest boolean down (Showing.antt).
-use native.Mathlib.Omega.{arith}
-use borrow.Author.Rules.{rules}
 use Rattle.settling.proofs.Showing as showing
 use Rattle.settling.proofs.bits.Given as goal
 

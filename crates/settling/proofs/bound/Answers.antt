@@ -1,7 +1,6 @@
 -- `settling::bound` meets its contract: a name or bound beyond the limits, else what the table answers.
 use native.Mathlib.Omega.{arith}
 use Rattle.settling.proofs.Ends as ends
-use borrow.Author.Rules.{rules}
 use Rattle.settling.proofs.bound.Goals as goal
 
 pub returns-then-x-gt-LAST_NUMBER : goal.returns-then-x-gt-LAST_NUMBER

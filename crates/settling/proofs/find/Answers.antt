@@ -2,7 +2,6 @@
 use mathlib.Core.Path.{refl}
 use native.Mathlib.Omega.{arith}
 use Rattle.settling.proofs.Guessing as guessing
-use borrow.Author.Rules.{rules}
 use Rattle.settling.proofs.find.Goals as goal
 
 pub returns-then-numbers-ne-ASSIGNED : goal.returns-then-numbers-ne-ASSIGNED

@@ -2,7 +2,6 @@
 use mathlib.Core.Path.{sym, ◌∙◌, ap}
 use lib.ListN.{set}
 use Rattle.settling.proofs.Ends as ends
-use borrow.Author.Rules.{rules}
 use Rattle.settling.proofs.mark.Goals as goal
 
 pub returns-then-p-gt-LAST_BOOLEAN : goal.returns-then-p-gt-LAST_BOOLEAN

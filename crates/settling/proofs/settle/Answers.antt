@@ -1,8 +1,6 @@
 -- `settling::settle` meets its contract: each turn takes a node (Taking.antt), and the nodes left fall.
-use Prim.Native.Nat.{◌-◌}
 use native.Mathlib.Omega.{arith}
 use borrow.Author.Tests.{not-true, not-false}
-use Rattle.nodes.specs.Words.{node_at}
 use Rattle.settling.proofs.Taking as taking
 use Rattle.settling.proofs.settle.Goals as goal
 

@@ -1,10 +1,5 @@
 -- `settling::show` meets its contract: the numbers are written in order (Showing.antt).
 use Prim.Native.Nat.{◌-◌}
-use native.Mathlib.Omega.{arith}
-use borrow.Author.Rules.{rules}
-use mir.Facts.{to_z-of_z}
-use mir.Syntax.{w32}
-use mir.Val.{SFits}
 use Rattle.condition.specs.Limits.{last_number}
 use Rattle.settling.proofs.Showing as showing
 use Rattle.settling.proofs.show.Given as goal

@@ -1,7 +1,6 @@
 -- `settling::take` meets its contract: each way out is one of Taking.antt.
 use mathlib.Core.Path.{refl, sym, ◌∙◌}
 use Rattle.settling.proofs.Taking as taking
-use borrow.Author.Rules.{rules}
 use Rattle.settling.proofs.take.Goals as goal
 
 pub returns-then-all : goal.returns-then-all

@@ -1,12 +1,9 @@
 -- `sweeping::sweep` meets its contract: each turn of the loop is a step of the definition's machine (Stages.antt).
-use Prim.Native.Nat.{◌-◌}
 use mathlib.Core.Path.{refl}
 use mathlib.Core.Logic.{inl, inr}
 use native.Mathlib.Omega.{arith}
-use borrow.Author.Rules.{rules}
 use Rattle.keeping.specs.Kept.{questions}
-use Rattle.nodes.specs.Words.{node_at}
-use Rattle.sweeping.proofs.Stages.{Goes, nothing, begins, goes_on, cuts, ended}
+use Rattle.sweeping.proofs.Stages.{nothing, begins, goes_on, cuts, ended}
 use Rattle.sweeping.proofs.sweep.Goals as goal
 use Rattle.sweeping.proofs.sweep.Goals.{then-loop-asked-test+else-q-end, else-loop-asked-test}
 

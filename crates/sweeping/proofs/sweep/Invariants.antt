@@ -1,13 +1,7 @@
 -- `sweeping::sweep` meets its contract: each turn of the loop is a step of the definition's machine (Stages.antt).
 use Prim.Native.Nat.{◌-◌}
-use mathlib.Core.Path.{refl}
-use mathlib.Core.Logic.{inl, inr}
-use native.Mathlib.Omega.{arith}
-use borrow.Author.Rules.{rules}
-use borrow.Author.Tests.{ltb-true, ltb-false}
-use Rattle.keeping.specs.Kept.{questions}
 use Rattle.nodes.specs.Words.{node_at}
-use Rattle.sweeping.proofs.Stages.{Goes, nothing, begins, goes_on, cuts, ended}
+use Rattle.sweeping.proofs.Stages.{Goes}
 use Rattle.sweeping.proofs.sweep.Given as goal
 
 abbrev pub invariant-loop-asked : goal.invariant-loop-asked

@@ -1,6 +1,5 @@
 -- `travelring::find` meets its contract: numbers of another length, a refusal of the reading, or what the search answers of the tree.
 use Rattle.travelring.proofs.Ways as ways
-use borrow.Author.Rules.{rules}
 use Rattle.travelring.proofs.find.Goals as goal
 
 pub returns-then-numbers-ne-ASSIGNED : goal.returns-then-numbers-ne-ASSIGNED

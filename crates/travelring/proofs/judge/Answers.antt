@@ -1,6 +1,5 @@
 -- `travelring::judge` meets its contract: numbers of another length, a refusal of the reading, or the value of the tree read.
 use Rattle.travelring.proofs.Ways as ways
-use borrow.Author.Rules.{rules}
 use Rattle.travelring.proofs.judge.Goals as goal
 
 pub returns-then-numbers-ne-ASSIGNED : goal.returns-then-numbers-ne-ASSIGNED

@@ -1,5 +1,4 @@
 -- `travelring::shown` meets its contract: a case of the verdict each.
-use borrow.Author.Rules.{rules}
 use Rattle.travelring.proofs.shown.Goals as goal
 
 pub returns-in-Found : goal.returns-in-Found

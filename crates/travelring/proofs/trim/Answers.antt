@@ -1,5 +1,4 @@
 -- `travelring::trim` meets its contract: a refusal of the reading, a result longer than the output, or the sweep's end.
-use borrow.Author.Rules.{rules}
 use Rattle.travelring.proofs.Trims as ways
 use Rattle.travelring.proofs.trim.Goals as goal
 

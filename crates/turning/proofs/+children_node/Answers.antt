@@ -1,12 +1,8 @@
 -- `turning::node` and `turning::children` meet their contracts, a cycle of calls in which the nodes left fall: `node` spends one,
 -- `children` at least one a child. Each way out is a law of Walk.antt.
-use Rattle.condition.specs.Meaning.{given}
-use Rattle.nodes.specs.Words.{node_at}
 use Rattle.turning.proofs.Walk as walk
 use Rattle.turning.proofs.Walk.{Walked}
-use borrow.Author.Rules.{rules}
 use native.Mathlib.Omega.{arith}
-use Prim.Native.Nat.{ℕ, ◌+◌, ◌*◌, ◌<◌}
 use Rattle.turning.proofs.+children_node.Goals as goal
 
 pub children-loop-todo-init : goal.children-loop-todo-init

@@ -2,11 +2,8 @@
 -- `children` at least one a child. Each way out is a law of Walk.antt.
 use Rattle.condition.specs.Meaning.{given}
 use Rattle.nodes.specs.Words.{node_at}
-use Rattle.turning.proofs.Walk as walk
 use Rattle.turning.proofs.Walk.{Walked}
-use borrow.Author.Rules.{rules}
-use native.Mathlib.Omega.{arith}
-use Prim.Native.Nat.{ℕ, ◌+◌, ◌*◌, ◌<◌}
+use Prim.Native.Nat.{◌+◌, ◌*◌}
 use Rattle.turning.proofs.+children_node.Given as goal
 
 abbrev pub decreases-children : goal.decreases-children

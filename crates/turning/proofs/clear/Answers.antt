@@ -1,7 +1,6 @@
 -- `turning::clear` meets its contract: after the marks up to k they are cleared (Clearing.antt).
-use Prim.Native.Nat.{◌-◌}
 use native.Mathlib.Omega.{arith}
-use Rattle.turning.proofs.Clearing.{Clearing, stays, clears_none, clears_one, cleared}
+use Rattle.turning.proofs.Clearing.{stays, clears_none, clears_one, cleared}
 use Rattle.turning.proofs.clear.Goals as goal
 
 pub returns-then-stay : goal.returns-then-stay

@@ -1,7 +1,6 @@
 -- `turning::clear` meets its contract: after the marks up to k they are cleared (Clearing.antt).
 use Prim.Native.Nat.{◌-◌}
-use native.Mathlib.Omega.{arith}
-use Rattle.turning.proofs.Clearing.{Clearing, stays, clears_none, clears_one, cleared}
+use Rattle.turning.proofs.Clearing.{Clearing}
 use Rattle.turning.proofs.clear.Given as goal
 
 abbrev pub invariant-loop-k : goal.invariant-loop-k

@@ -1,7 +1,6 @@
 -- `turning::turn` meets its contract: the walk begins at node 0, with one tree of n nodes, and at the first mark.
 use native.Mathlib.Omega.{arith}
 use Rattle.turning.proofs.Walk as walk
-use borrow.Author.Rules.{rules}
 use Rattle.turning.proofs.turn.Goals as goal
 
 pub returns-then-n-gt-QUESTION_ROOM : goal.returns-then-n-gt-QUESTION_ROOM

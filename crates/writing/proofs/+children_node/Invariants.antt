@@ -1,11 +1,6 @@
 -- `writing::node` and `writing::children` meet their contracts, a cycle of calls in which the nodes left fall: `node` spends one, `children`
 -- at least one a child. Each way out is a law of Walk.antt.
-use borrow.Author.Rules.{rules}
-use mathlib.Core.Path.{refl}
-use native.Mathlib.Omega.{arith}
-use Prim.Native.Nat.{ℕ, ◌+◌, ◌*◌, ◌<◌}
-use Rattle.writing.proofs.Room.{within}
-use Rattle.writing.proofs.Walk as walk
+use Prim.Native.Nat.{◌+◌, ◌*◌}
 use Rattle.writing.proofs.+children_node.Given as goal
 
 abbrev pub decreases-children : goal.decreases-children

@@ -1,10 +1,8 @@
 -- `writing::put` meets its contract, a cycle of one in which the groups left fall. Each way out is a law of Room.antt.
-use borrow.Author.Rules.{rules}
 use mathlib.Core.Path.{refl, ◌∙◌}
 use Rattle.writing.proofs.Room as room
 use lib.ListN.{length-set}
 use native.Mathlib.Omega.{arith}
-use Prim.Native.Nat.{ℕ, ◌<◌}
 use Rattle.writing.proofs.+put.Goals as goal
 
 pub returns-then-groups-eq0 : goal.returns-then-groups-eq0

@@ -1,6 +1,5 @@
 -- `writing::bound` meets its contract: the sign of a bound is whether it lies below 1,000,000 where it is kept.
 use Rattle.writing.proofs.Own.{bound_below, bound_above}
-use borrow.Author.Rules.{rules}
 use Rattle.writing.proofs.bound.Goals as goal
 
 pub returns-then-w-lt-LARGEST_BOUND : goal.returns-then-w-lt-LARGEST_BOUND

@@ -1,12 +1,7 @@
 -- `writing::needed` meets its contract. The loop's invariant: the sum is that of the nodes passed, at most twelve bytes each. The measure is
 -- what is left of the nodes.
-use Prim.Native.Nat.{◌≤◌, ◌*◌, ◌-◌}
-use mathlib.Core.Path.{◌≡◌}
 use native.Mathlib.Omega.{arith}
-use borrow.Author.Rules.{rules}
-use Rattle.condition.specs.Limits.{groups, tree_room}
-use Rattle.nodes.specs.Words.{node_at}
-use Rattle.writing.proofs.Total.{total, one_more, none_yet, all_counted}
+use Rattle.writing.proofs.Total.{one_more, none_yet, all_counted}
 use Rattle.writing.proofs.needed.Goals as goal
 
 pub returns-then-n-gt-TREE_ROOM : goal.returns-then-n-gt-TREE_ROOM

@@ -2,11 +2,9 @@
 -- what is left of the nodes.
 use Prim.Native.Nat.{◌≤◌, ◌*◌, ◌-◌}
 use mathlib.Core.Path.{◌≡◌}
-use native.Mathlib.Omega.{arith}
-use borrow.Author.Rules.{rules}
 use Rattle.condition.specs.Limits.{groups, tree_room}
 use Rattle.nodes.specs.Words.{node_at}
-use Rattle.writing.proofs.Total.{total, one_more, none_yet, all_counted}
+use Rattle.writing.proofs.Total.{total}
 use Rattle.writing.proofs.needed.Given as goal
 
 abbrev pub invariant-loop-i : goal.invariant-loop-i

@@ -1,7 +1,6 @@
 -- `writing::own_length` meets its contract: a node's own bytes are written to a room that always holds them.
 use mathlib.Core.Path.{refl}
 use Rattle.writing.proofs.Own.{own_measured}
-use borrow.Author.Rules.{rules}
 use Rattle.writing.proofs.own_length.Goals as goal
 
 pub returns : goal.returns

@@ -2,7 +2,6 @@
 use mathlib.Core.Path.{refl}
 use native.Mathlib.Omega.{arith}
 use Rattle.writing.proofs.Room.{within, put_then}
-use borrow.Author.Rules.{rules}
 use Rattle.writing.proofs.put_four.Goals as goal
 
 pub overflow_add-result : goal.overflow_add-result

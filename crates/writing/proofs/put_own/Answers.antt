@@ -1,6 +1,5 @@
 -- `writing::put_own` meets its contract: a kind of node at a time, by the laws of Own.antt.
 use Rattle.writing.proofs.Own.{put_plain, put_join, put_flag, put_bound}
-use borrow.Author.Rules.{rules}
 use Rattle.writing.proofs.put_own.Goals as goal
 
 pub returns-in-Plain : goal.returns-in-Plain

@@ -1,5 +1,4 @@
 -- `writing::tag` meets its contract.
-use borrow.Author.Rules.{rules}
 use Rattle.writing.proofs.tag.Goals as goal
 
 pub returns-else-so : goal.returns-else-so

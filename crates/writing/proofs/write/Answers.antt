@@ -1,7 +1,6 @@
 -- `writing::write` meets its contract: what does not fit is not begun, and what fits is written by `node`.
 use native.Mathlib.Omega.{arith}
 use Rattle.writing.proofs.Walk.{written_not, written_here}
-use borrow.Author.Rules.{rules}
 use Rattle.writing.proofs.write.Goals as goal
 
 pub returns-then-n-gt-TREE_ROOM : goal.returns-then-n-gt-TREE_ROOM

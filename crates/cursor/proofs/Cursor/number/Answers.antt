@@ -1,6 +1,5 @@
 -- `Cursor::number` meets its contract: one byte is read at once (Groups.antt), and `group` reads any number.
 use Rattle.cursor.proofs.Groups.{one_byte}
-use borrow.Author.Rules.{rules}
 use Rattle.cursor.proofs.Cursor.number.Goals as goal
 
 pub returns-then-b-lt-GROUP_SIZE : goal.returns-then-b-lt-GROUP_SIZE

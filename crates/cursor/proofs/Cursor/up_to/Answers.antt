@@ -4,7 +4,6 @@ use borrow.Author.Tests.{le-leb, lt-leb}
 use Rattle.condition.specs.Reading.{refused, up_to}
 use Rattle.cursor.specs.Said.{said, answer_of}
 use Rattle.cursor.proofs.Steps.{stops, goes_on}
-use borrow.Author.Rules.{rules}
 use Rattle.cursor.proofs.Cursor.up_to.Goals as goal
 
 pub returns-in_default : goal.returns-in_default

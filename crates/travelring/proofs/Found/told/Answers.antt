@@ -1,6 +1,5 @@
 -- `Found::told` meets its contract: a case of the answer each.
 use mathlib.Core.Path.{sym, ◌∙◌, ap}
-use borrow.Author.Rules.{rules}
 use Rattle.travelring.specs.Finding.{told_found}
 use Rattle.travelring.proofs.Found.told.Goals as goal
 

@@ -1,6 +1,5 @@
 -- `Judged::told` meets its contract: a case of the answer each.
 use mathlib.Core.Path.{sym, ◌∙◌, ap}
-use borrow.Author.Rules.{rules}
 use Rattle.travelring.specs.Judging.{told}
 use Rattle.travelring.proofs.Judged.told.Goals as goal
 

@@ -1,6 +1,5 @@
 -- `Trimmed::told` meets its contract: a case of the answer each.
 use mathlib.Core.Path.{sym, ◌∙◌, ap}
-use borrow.Author.Rules.{rules}
 use Rattle.travelring.specs.Trimming.{told_trimmed}
 use Rattle.travelring.proofs.Trimmed.told.Goals as goal
 
