@@ -6,7 +6,8 @@ mod read;
 mod text;
 mod trial;
 
-ghost use Rattle.std.specs.Prelude.{◌≤◌, ◌<◌, length, IfOk};
+ghost use Rattle.std.specs.Prelude.{◌≤◌, ◌<◌, length, take, IfOk};
+ghost use Rattle.std.specs.Io.KnownBytes.{Consumes, IsAtEnd};
 
 use read::{END, MOST_NODES, Tree, read_tree};
 use std::io;
@@ -186,8 +187,10 @@ fn check_lines(out: &mut impl Write, text: &[u8]) -> io::Result<()> {
 }
 
 // Reads until the text is full or the input ends, and says how many bytes were read.
-fn read_full(input: &mut impl Read, text: &mut [u8]) -> io::Result<usize>
-    ensures { IfOk result (λ n. n ≤ length text.new) }
+fn read_full<R: Read>(input: &mut R, text: &mut [u8]) -> io::Result<usize>
+    ensures bound { IfOk result (λ n. n ≤ length text.new) }
+    ensures bytes { IfOk result (λ n. Consumes (R.remaining input.old) (R.remaining input.new) (take n text.new)) }
+    ensures end { IfOk result (λ n. n < length text.new → IsAtEnd (R.remaining input.new)) }
 {
     let mut n = 0;
     while n < text.len() {
