@@ -6,8 +6,9 @@ mod read;
 mod text;
 mod trial;
 
-ghost use Rattle.std.specs.Prelude.{◌≤◌, ◌<◌, length, take, IfOk};
-ghost use Rattle.std.specs.Io.KnownBytes.{Consumes, IsAtEnd};
+ghost use Rattle.std.specs.Prelude.{◌≤◌, ◌<◌, length, take, IfOk, OnOk};
+ghost use Rattle.std.specs.Fmt.{decimal};
+ghost use Rattle.std.specs.Io.KnownBytes.{Appends, Consumes, IsAtEnd};
 
 use read::{END, MOST_NODES, Tree, read_tree};
 use std::io;
@@ -28,11 +29,15 @@ enum Answer {
     Unclear,
 }
 
-fn print(out: &mut impl Write, text: &[u8]) -> io::Result<()> {
+fn print<W: Write>(out: &mut W, text: &[u8]) -> io::Result<()>
+    ensures { OnOk result (Appends (W.contents out.old) (W.contents out.new) text.now) }
+{
     out.write_all(text)
 }
 
-fn print_count(out: &mut impl Write, n: usize) -> io::Result<()> {
+fn print_count<W: Write>(out: &mut W, n: usize) -> io::Result<()>
+    ensures { OnOk result (Appends (W.contents out.old) (W.contents out.new) (decimal n)) }
+{
     write!(out, "{n}")
 }
 
