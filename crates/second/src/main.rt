@@ -6,10 +6,13 @@ mod read;
 mod text;
 mod trial;
 
-ghost use Rattle.std.specs.Prelude.{◌≤◌, ◌<◌};
+ghost use Rattle.std.specs.Prelude.{◌≤◌, ◌<◌, length, take, IfOk, OnOk};
+ghost use Rattle.std.specs.Fmt.{decimal};
+ghost use Rattle.std.specs.Io.KnownBytes.{Appends, Consumes, IsAtEnd};
 
-use libc::{STDIN_FILENO, STDOUT_FILENO};
 use read::{END, MOST_NODES, Tree, read_tree};
+use std::io;
+use std::io::{Read, Write};
 use text::{character, find, word_after};
 use trial::{differ, made};
 
@@ -26,12 +29,16 @@ enum Answer {
     Unclear,
 }
 
-fn print(text: &[u8]) {
-    io::write_all(STDOUT_FILENO, text);
+fn print<W: Write>(out: &mut W, text: &[u8]) -> io::Result<()>
+    ensures { OnOk result (Appends (W.contents out.old) (W.contents out.new) text.now) }
+{
+    out.write_all(text)
 }
 
-fn print_count(n: usize) {
-    io::print_decimal(STDOUT_FILENO, n as u64);
+fn print_count<W: Write>(out: &mut W, n: usize) -> io::Result<()>
+    ensures { OnOk result (Appends (W.contents out.old) (W.contents out.new) (decimal n)) }
+{
+    write!(out, "{n}")
 }
 
 fn one_if(kind: u8) -> usize
@@ -77,56 +84,54 @@ fn first_redundant(tree: Tree) -> usize
     NONE
 }
 
-fn print_redundant(tree: Tree) {
+fn print_redundant(out: &mut impl Write, tree: Tree) -> io::Result<()> {
     let i = first_redundant(tree);
     if i == NONE {
-        print(b", each matters");
-        return;
+        return print(out, b", each matters");
     }
-    print(b", end ");
-    print_count(count_ends(tree, i) + 1);
-    print(b" does not matter");
+    print(out, b", end ")?;
+    print_count(out, count_ends(tree, i) + 1)?;
+    print(out, b" does not matter")
 }
 
 // How many ends are left of how many there were; demand 2 allows no more.
-fn print_ends(left: usize, ends: usize) {
-    print_count(left);
-    print(b" of ");
-    print_count(ends);
-    print(b" ends");
+fn print_ends(out: &mut impl Write, left: usize, ends: usize) -> io::Result<()> {
+    print_count(out, left)?;
+    print(out, b" of ")?;
+    print_count(out, ends)?;
+    print(out, b" ends")?;
     if ends < left {
-        print(b", more than before");
+        print(out, b", more than before")?;
     }
+    Ok(())
 }
 
 // A stopped sweep may leave redundant ends, so these are looked for only in a finished result.
-fn compare(condition: Tree, res: Tree, finished: bool) {
+fn compare(out: &mut impl Write, condition: Tree, res: Tree, finished: bool) -> io::Result<()> {
     if differ(condition, res) {
-        print(b"differs");
-        return;
+        return print(out, b"differs");
     }
-    print(b"same, ");
+    print(out, b"same, ")?;
     print_ends(
+        out,
         count_ends(res, MOST_NODES),
         count_ends(condition, MOST_NODES),
-    );
+    )?;
     if finished {
-        print_redundant(res);
+        print_redundant(out, res)
     } else {
-        print(b", stopped");
+        print(out, b", stopped")
     }
 }
 
-fn check_trees(condition: Tree, res: Tree, finished: bool) {
+fn check_trees(out: &mut impl Write, condition: Tree, res: Tree, finished: bool) -> io::Result<()> {
     if condition.size == 0 {
-        print(b"condition not understood");
-        return;
+        return print(out, b"condition not understood");
     }
     if res.size == 0 {
-        print(b"result not understood");
-        return;
+        return print(out, b"result not understood");
     }
-    compare(condition, res, finished);
+    compare(out, condition, res, finished)
 }
 
 // 0 is finished and 10 stopped; every other number is a refusal.
@@ -148,7 +153,7 @@ fn answer_of(word: &[u8]) -> Answer {
 }
 
 // A line has a verb, a condition, ration and room, and after `=>` the answer, place, questions, ends and result.
-fn check(line: &[u8]) {
+fn check(out: &mut impl Write, line: &[u8]) -> io::Result<()> {
     let start = word_after(line, 0);
     let slash = find(line, start, b'/');
     let arrow = find(line, 0, b'>');
@@ -160,33 +165,51 @@ fn check(line: &[u8]) {
     let condition = read_tree(&line[start..slash]);
     let result = read_tree(&line[last..]);
     match answer_of(&line[answer..]) {
-        Answer::Finished => check_trees(condition, result, true),
-        Answer::Stopped => check_trees(condition, result, false),
-        Answer::Refused => print(b"refused"),
-        Answer::Unclear => print(b"answer not understood"),
+        Answer::Finished => check_trees(out, condition, result, true),
+        Answer::Stopped => check_trees(out, condition, result, false),
+        Answer::Refused => print(out, b"refused"),
+        Answer::Unclear => print(out, b"answer not understood"),
     }
 }
 
-fn check_line(line: &[u8]) {
+fn check_line(out: &mut impl Write, line: &[u8]) -> io::Result<()> {
     if character(line, 0) == b'#' {
-        print(line);
+        print(out, line)?;
     } else {
-        check(line);
+        check(out, line)?;
     }
-    print(b"\n");
+    print(out, b"\n")
 }
 
-fn check_lines(text: &[u8]) {
+fn check_lines(out: &mut impl Write, text: &[u8]) -> io::Result<()> {
     let mut start = 0;
     while start < text.len() {
         let end = find(text, start, b'\n');
-        check_line(&text[start..end]);
+        check_line(out, &text[start..end])?;
         start = end + 1;
     }
+    Ok(())
 }
 
-fn main() {
+// Reads until the text is full or the input ends, and says how many bytes were read.
+fn read_full<R: Read>(input: &mut R, text: &mut [u8]) -> io::Result<usize>
+    ensures bound { IfOk result (λ n. n ≤ length text.new) }
+    ensures bytes { IfOk result (λ n. Consumes (R.remaining input.old) (R.remaining input.new) (take n text.new)) }
+    ensures end { IfOk result (λ n. n < length text.new → IsAtEnd (R.remaining input.new)) }
+{
+    let mut n = 0;
+    while n < text.len() {
+        let more = input.read(&mut text[n..])?;
+        if more == 0 {
+            return Ok(n);
+        }
+        n += more;
+    }
+    Ok(n)
+}
+
+fn main(rt: HostRuntime) -> io::Result<()> {
     let mut text = [0u8; MOST_TEXT];
-    let n = io::read_full(STDIN_FILENO, &mut text);
-    check_lines(&text[..n]);
+    let n = read_full(&mut rt.reader(), &mut text)?;
+    check_lines(&mut io::writer(&rt), &text[..n])
 }
