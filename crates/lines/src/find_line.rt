@@ -1,6 +1,8 @@
 // `find HEX`: document 01's answer number and place. Which assignment is found is free, so it is not printed, but what judge says of it;
 // and it is said if a number is out of range, or was written by a refusal.
 use condition::{ASSIGNED, FARTHEST, Whole};
+use std::io;
+use std::io::Write;
 use travelring::Found;
 use typed::print::{print, print_answer, print_stuck};
 
@@ -30,42 +32,48 @@ fn as_preset(numbers: &[Whole]) -> bool {
     true
 }
 
-fn print_shown(tree: &[u8], bits: u32, numbers: &[Whole]) {
+fn print_shown(out: &mut impl Write, tree: &[u8], bits: u32, numbers: &[Whole]) -> io::Result<()> {
     let judged = travelring::judge(tree, bits, numbers);
     let told = judged.told();
     if told.value {
-        print(b" judged true");
+        print(out, b" judged true")?;
     } else {
-        print(b" judged false");
+        print(out, b" judged false")?;
     }
     if !in_range(numbers) {
-        print(b" out of range");
+        print(out, b" out of range")?;
     }
+    Ok(())
 }
 
-fn print_found(tree: &[u8], found: Found, numbers: &[Whole]) {
+fn print_found(
+    out: &mut impl Write,
+    tree: &[u8],
+    found: Found,
+    numbers: &[Whole],
+) -> io::Result<()> {
     let told = found.told();
-    print_answer(told.answer, told.place);
+    print_answer(out, told.answer, told.place)?;
     if let Found::Shown(bits) = found {
-        print_shown(tree, bits, numbers);
-        return;
+        return print_shown(out, tree, bits, numbers);
     }
     if !as_preset(numbers) {
-        print(b" written");
+        print(out, b" written")?;
     }
+    Ok(())
 }
 
-fn find(tree: &[u8]) {
+fn find(out: &mut impl Write, tree: &[u8]) -> io::Result<()> {
     let mut numbers = [PRESET; ASSIGNED];
     let found = travelring::find(tree, &mut numbers);
-    print_found(tree, found, &numbers);
+    print_found(out, tree, found, &numbers)
 }
 
 // Nothing comes after the condition.
-pub fn answer(line: &[u8], at: usize, tree: &[u8]) {
+pub fn answer(out: &mut impl Write, line: &[u8], at: usize, tree: &[u8]) -> io::Result<()> {
     if at < line.len() {
-        print_stuck(at);
+        print_stuck(out, at)
     } else {
-        find(tree);
+        find(out, tree)
     }
 }

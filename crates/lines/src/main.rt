@@ -6,7 +6,9 @@ mod find_line;
 mod judge_line;
 mod trim_line;
 
-use libc::STDIN_FILENO;
+use std::io;
+use std::io::Write;
+use typed::input::read_full;
 use typed::print::{print, print_stuck};
 use typed::text::{MOST_BYTES, Read, is_heading, line_end, read_tree, word_end};
 
@@ -47,52 +49,53 @@ fn verb_of(word: &[u8]) -> Verb {
 }
 
 // From where the condition's bytes end in the line.
-fn call(verb: Verb, line: &[u8], at: usize, tree: &[u8]) {
+fn call(out: &mut impl Write, verb: Verb, line: &[u8], at: usize, tree: &[u8]) -> io::Result<()> {
     match verb {
-        Verb::Trim => trim_line::answer(line, at, tree),
-        Verb::Judge => judge_line::answer(line, at, tree),
-        Verb::Find => find_line::answer(line, at, tree),
-        Verb::Unknown => print_stuck(0),
+        Verb::Trim => trim_line::answer(out, line, at, tree),
+        Verb::Judge => judge_line::answer(out, line, at, tree),
+        Verb::Find => find_line::answer(out, line, at, tree),
+        Verb::Unknown => print_stuck(out, 0),
     }
 }
 
-fn answer_verb(verb: Verb, line: &[u8], start: usize) {
+fn answer_verb(out: &mut impl Write, verb: Verb, line: &[u8], start: usize) -> io::Result<()> {
     let mut tree = [0u8; MOST_BYTES];
     match read_tree(line, start, &mut tree) {
-        Read::Value(n, next) => call(verb, line, next, &tree[..n]),
-        Read::Stuck(place) => print_stuck(place),
+        Read::Value(n, next) => call(out, verb, line, next, &tree[..n]),
+        Read::Stuck(place) => print_stuck(out, place),
     }
 }
 
-fn answer(line: &[u8]) {
+fn answer(out: &mut impl Write, line: &[u8]) -> io::Result<()> {
     let end = word_end(line);
     let verb = verb_of(&line[..end]);
     match verb {
-        Verb::Unknown => print_stuck(0),
-        _ => answer_verb(verb, line, end),
+        Verb::Unknown => print_stuck(out, 0),
+        _ => answer_verb(out, verb, line, end),
     }
 }
 
-fn answer_line(line: &[u8]) {
-    print(line);
+fn answer_line(out: &mut impl Write, line: &[u8]) -> io::Result<()> {
+    print(out, line)?;
     if !is_heading(line) {
-        print(b" => ");
-        answer(line);
+        print(out, b" => ")?;
+        answer(out, line)?;
     }
-    print(b"\n");
+    print(out, b"\n")
 }
 
-fn answer_lines(text: &[u8]) {
+fn answer_lines(out: &mut impl Write, text: &[u8]) -> io::Result<()> {
     let mut start = 0;
     while start < text.len() {
         let end = line_end(text, start);
-        answer_line(&text[start..end]);
+        answer_line(out, &text[start..end])?;
         start = end + 1;
     }
+    Ok(())
 }
 
-fn main() {
+fn main(rt: HostRuntime) -> io::Result<()> {
     let mut text = [0u8; MOST_TEXT];
-    let n = io::read_full(STDIN_FILENO, &mut text);
-    answer_lines(&text[..n]);
+    let n = read_full(&mut rt.reader(), &mut text)?;
+    answer_lines(&mut io::writer(&rt), &text[..n])
 }

@@ -2,7 +2,9 @@
 #![tactic(auto)]
 
 use condition::LONGEST_TREE;
-use libc::STDIN_FILENO;
+use std::io;
+use std::io::Write;
+use typed::input::read_full;
 use typed::print::print;
 use typed::result::{print_bytes, print_trimmed};
 
@@ -12,17 +14,17 @@ const TAKEN: usize = 256;
 const RATION: u32 = 600;
 
 // Line one has the numbers; line two the result, and is empty after a refusal.
-fn trim(tree: &[u8]) {
-    let mut out = [0u8; LONGEST_TREE];
-    let trimmed = travelring::trim(tree, RATION, &mut out);
-    print_trimmed(trimmed.told());
-    print(b"\n");
-    print_bytes(&out, trimmed.length());
-    print(b"\n");
+fn trim(out: &mut impl Write, tree: &[u8]) -> io::Result<()> {
+    let mut room = [0u8; LONGEST_TREE];
+    let trimmed = travelring::trim(tree, RATION, &mut room);
+    print_trimmed(out, trimmed.told())?;
+    print(out, b"\n")?;
+    print_bytes(out, &room, trimmed.length())?;
+    print(out, b"\n")
 }
 
-fn main() {
+fn main(rt: HostRuntime) -> io::Result<()> {
     let mut taken = [0u8; TAKEN];
-    let n = io::read_full(STDIN_FILENO, &mut taken);
-    trim(&taken[..n]);
+    let n = read_full(&mut rt.reader(), &mut taken)?;
+    trim(&mut io::writer(&rt), &taken[..n])
 }

@@ -1,17 +1,20 @@
 // Prints an answer's number and place, or that a line is not understood.
-use libc::STDOUT_FILENO;
+ghost use Rattle.std.specs.Prelude.{OnOk};
+ghost use Rattle.std.specs.Io.KnownBytes.{Appends};
 
-pub fn print(text: &[u8]) {
-    io::write_all(STDOUT_FILENO, text);
+use std::io;
+use std::io::Write;
+
+pub fn print<W: Write>(out: &mut W, text: &[u8]) -> io::Result<()>
+    ensures { OnOk result (Appends (W.contents out.old) (W.contents out.new) text.now) }
+{
+    out.write_all(text)
 }
 
-pub fn print_answer(number: u32, place: usize) {
-    io::print_decimal(STDOUT_FILENO, number as u64);
-    print(b" ");
-    io::print_decimal(STDOUT_FILENO, place as u64);
+pub fn print_answer(out: &mut impl Write, number: u32, place: usize) -> io::Result<()> {
+    write!(out, "{number} {place}")
 }
 
-pub fn print_stuck(at: usize) {
-    print(b"not understood at ");
-    io::print_decimal(STDOUT_FILENO, at as u64);
+pub fn print_stuck(out: &mut impl Write, at: usize) -> io::Result<()> {
+    write!(out, "not understood at {at}")
 }

@@ -2,30 +2,31 @@
 ghost use Rattle.std.specs.Prelude.{◌≤◌, length};
 
 use crate::print::{print, print_answer};
-use libc::STDOUT_FILENO;
+use std::io;
+use std::io::Write;
 use travelring::Trimming;
 
 // Answer, place, questions and ends.
-pub fn print_trimmed(told: Trimming) {
-    print_answer(told.answer, told.place);
-    print(b" ");
-    io::print_decimal(STDOUT_FILENO, told.questions as u64);
-    print(b" ");
-    io::print_decimal(STDOUT_FILENO, told.ends as u64);
+pub fn print_trimmed(out: &mut impl Write, told: Trimming) -> io::Result<()> {
+    print_answer(out, told.answer, told.place)?;
+    let questions = told.questions;
+    let ends = told.ends;
+    write!(out, " {questions} {ends}")
 }
 
-fn print_byte(b: u8) {
-    io::print_hex(STDOUT_FILENO, b as u64, 2);
+fn print_byte(out: &mut impl Write, b: u8) -> io::Result<()> {
+    write!(out, "{b:02x}")
 }
 
 // The first n bytes in hex, a space between them.
-pub fn print_bytes(bytes: &[u8], n: usize)
+pub fn print_bytes(out: &mut impl Write, bytes: &[u8], n: usize) -> io::Result<()>
     requires { n ≤ length bytes.now }
 {
     for i in 0..n {
         if 0 < i {
-            print(b" ");
+            print(out, b" ")?;
         }
-        print_byte(bytes[i]);
+        print_byte(out, bytes[i])?;
     }
+    Ok(())
 }
