@@ -8,23 +8,11 @@ use Rattle.asking.proofs.+gather.Goals as goal
 pub returns-then-n-eq0 : goal.returns-then-n-eq0
 returns-then-n-eq0 t c = ways.none_left _ _ _ _ _ _ _ c.if-n-eq0.true
 
-pub node_at-requires : goal.node_at-requires
-node_at-requires t c = search rules
-
-pub enum_told-1 : goal.enum_told-1
-enum_told-1 t c = search rules
-
-pub enum_known-all : goal.enum_known-all
-enum_known-all t c = search rules
-
 pub overflow_add-i : goal.overflow_add-i
 overflow_add-i t c = omega (arith, c.requires)
 
 pub overflow_add-i-in-Join : goal.overflow_add-i-in-Join
 overflow_add-i-in-Join t c = omega (arith, c.requires)
-
-pub seek-c-requires : goal.seek-c-requires
-seek-c-requires t c = search rules
 
 pub overflow_sub-others : goal.overflow_sub-others
 overflow_sub-others t c = omega (arith, c.if-n-eq0.false)
@@ -62,26 +50,8 @@ overflow_sub-n t c =
 pub overflow_sub-depth : goal.overflow_sub-depth
 overflow_sub-depth t c = omega (arith, c.if-depth-eq0.false)
 
-pub siblings-requires : goal.siblings-requires
-siblings-requires t c = search rules
-
 pub overflow_sub-depth-in-Join : goal.overflow_sub-depth-in-Join
 overflow_sub-depth-in-Join t c = omega (arith, c.if-depth-eq0.false)
-
-pub offset_bounds-out-others : goal.offset_bounds-out-others
-offset_bounds-out-others t c = search rules
-
-pub slice_bounds-gather-count : goal.slice_bounds-gather-count
-slice_bounds-gather-count t c = search rules
-
-pub slice_bounds-gather-start : goal.slice_bounds-gather-start
-slice_bounds-gather-start t c = search rules
-
-pub slice_bounds-gather-end : goal.slice_bounds-gather-end
-slice_bounds-gather-end t c = search rules
-
-pub gather-r-requires : goal.gather-r-requires
-gather-r-requires t c = search rules
 
 pub overflow_add-result : goal.overflow_add-result
 overflow_add-result t c =
@@ -97,27 +67,9 @@ pub overflow_add-result-in-Join : goal.overflow_add-result-in-Join
 overflow_add-result-in-Join t c =
     omega (arith, c.requires, c.gather-r.ensures.few, c.seek-c.ensures.low, c.seek-c.ensures.high, c.if-others-k.false)
 
-pub enum_told-in-Flag : goal.enum_told-in-Flag
-enum_told-in-Flag t c = search rules
-
-pub word_at-requires : goal.word_at-requires
-word_at-requires t c = search rules
-
-pub turn-requires : goal.turn-requires
-turn-requires t c = search rules
-
 pub bounds-out-0 : goal.bounds-out-0
 bounds-out-0 t c =
     omega (arith, c.requires, c.if-n-eq0.false)
-
-pub enum_told-in-Bound : goal.enum_told-in-Bound
-enum_told-in-Bound t c = search rules
-
-pub word_at-requires-in-Bound : goal.word_at-requires-in-Bound
-word_at-requires-in-Bound t c = search rules
-
-pub turn-requires-in-Bound : goal.turn-requires-in-Bound
-turn-requires-in-Bound t c = search rules
 
 pub bounds-out-0-in-Bound : goal.bounds-out-0-in-Bound
 bounds-out-0-in-Bound t c =
@@ -127,33 +79,21 @@ pub returns-in-Plain : goal.returns-in-Plain
 returns-in-Plain t c =
     ways.constant _ _ _ _ _ _ _ _ (sym c.node_at.ensures ∙ c.in-Plain.is)
 
-pub shape_of-out-else-others-k : goal.shape_of-out-else-others-k
-shape_of-out-else-others-k t c = search rules
-
 pub returns-else-others-k : goal.returns-else-others-k
 returns-else-others-k t c =
-    ways.connective_lent _ _ _ _ _ _ _ _ _ (sym c.node_at.ensures ∙ c.in-Join.is) _ _ _ c.seek-c.ensures c.siblings.new.out c.gather-r.new.out _ _ c.if-n-eq0.false c.if-k-eq0.false c.if-others-k.false (omega (arith, c.requires, c.out-1.given)) (let
-    k = c.out-in-Join-1.given in omega arith) c.siblings.ensures c.gather-r.ensures
-
-pub shape_of-out-in-Flag : goal.shape_of-out-in-Flag
-shape_of-out-in-Flag t c = search rules
+    ways.connective_lent _ _ _ _ _ _ _ _ _ (sym c.node_at.ensures ∙ c.in-Join.is) _ _ _ c.seek-c.ensures
+    c.siblings.new.out c.gather-r.new.out _ _ c.if-n-eq0.false c.if-k-eq0.false c.if-others-k.false
+    (omega (arith, c.requires, c.out-1.given))
+    (let k = c.out-in-Join-1.given in omega arith) c.siblings.ensures c.gather-r.ensures
 
 pub returns-in-Flag : goal.returns-in-Flag
 returns-in-Flag t c =
-    ways.a_flag _ _ _ _ _ _ _ _ _ (sym c.node_at.ensures ∙ c.in-Flag.is) c.if-n-eq0.false (ways.end_put c.args.ns.now
-    c.args.out.now c.args.p.at c.args.opposite c.word_at.result c.turn.result (omega (
-      arith,
-      c.requires,
-      c.if-n-eq0.false,
-    )) c.word_at.ensures c.turn.ensures)
-
-pub shape_of-out-in-Bound : goal.shape_of-out-in-Bound
-shape_of-out-in-Bound t c = search rules
+    ways.a_flag _ _ _ _ _ _ _ _ _ (sym c.node_at.ensures ∙ c.in-Flag.is) c.if-n-eq0.false
+    (ways.end_put c.args.ns.now c.args.out.now c.args.p.at c.args.opposite c.word_at.result c.turn.result
+    (omega (arith, c.requires, c.if-n-eq0.false)) c.word_at.ensures c.turn.ensures)
 
 pub returns-in-Bound : goal.returns-in-Bound
 returns-in-Bound t c =
-    ways.a_bound _ _ _ _ _ _ _ _ _ _ _ (sym c.node_at.ensures ∙ c.in-Bound.is) c.if-n-eq0.false (ways.end_put c.args.ns.now c.args.out.now c.args.p.at c.args.opposite c.word_at-in-Bound.result c.turn-in-Bound.result (omega (
-      arith,
-      c.requires,
-      c.if-n-eq0.false,
-    )) c.word_at-in-Bound.ensures c.turn-in-Bound.ensures)
+    ways.a_bound _ _ _ _ _ _ _ _ _ _ _ (sym c.node_at.ensures ∙ c.in-Bound.is) c.if-n-eq0.false
+    (ways.end_put c.args.ns.now c.args.out.now c.args.p.at c.args.opposite c.word_at-in-Bound.result c.turn-in-Bound.result
+    (omega (arith, c.requires, c.if-n-eq0.false)) c.word_at-in-Bound.ensures c.turn-in-Bound.ensures)

@@ -1,4 +1,4 @@
--- `asking::gather` meets its contract; the connectives that may still nest fall. Each way out is a law of Gathering.antt.
+-- What falls in the calls of `asking::gather`; Answers.antt says the argument.
 use Rattle.asking.proofs.+gather.Given as goal
 
 abbrev pub decreases-gather : goal.decreases-gather

@@ -8,12 +8,6 @@ use Rattle.asking.proofs.Negating as ways
 use Rattle.asking.proofs.Negating.{Negated}
 use Rattle.asking.proofs.+negate_negate_all.Goals as goal
 
-pub negate-word_at-requires : goal.negate-word_at-requires
-negate-word_at-requires t c = search rules
-
-pub negate-opposed_word-requires : goal.negate-opposed_word-requires
-negate-opposed_word-requires t c = search rules
-
 pub negate-bounds-out-0 : goal.negate-bounds-out-0
 negate-bounds-out-0 t c = omega (arith, c.requires)
 
@@ -34,9 +28,6 @@ pub negate-slice_bounds-negate_all-start : goal.negate-slice_bounds-negate_all-s
 negate-slice_bounds-negate_all-start t c =
     omega (arith, c.requires, length-set c.args.out.now 0 c.opposed_word.result)
 
-pub negate-slice_bounds-negate_all-end : goal.negate-slice_bounds-negate_all-end
-negate-slice_bounds-negate_all-end t c = search rules
-
 pub negate-negate_all-requires : goal.negate-negate_all-requires
 negate-negate_all-requires t c =
     let l = length-set c.args.out.now 0 c.opposed_word.result in omega (arith, c.requires)
@@ -47,24 +38,20 @@ negate-shape_of-out-then-depth-gt0 t c =
 
 pub negate-returns-then-depth-gt0 : goal.negate-returns-then-depth-gt0
 negate-returns-then-depth-gt0 t c =
-    ways.negate_below c.args.ns.now _ _ _ c.args.out.now (omega (arith, c.requires)) _ _ c.word_at.ensures c.opposed_word.ensures c.negate_all.new.out c.if-depth-gt0.true (let l = length-set c.args.out.now 0 c.opposed_word.result in
-    omega arith) c.negate_all.ensures
-
-pub negate-shape_of-out-else-depth-gt0 : goal.negate-shape_of-out-else-depth-gt0
-negate-shape_of-out-else-depth-gt0 t c = search rules
+    ways.negate_below c.args.ns.now _ _ _ c.args.out.now (omega (arith, c.requires)) _ _ c.word_at.ensures
+    c.opposed_word.ensures c.negate_all.new.out c.if-depth-gt0.true
+    (let l = length-set c.args.out.now 0 c.opposed_word.result in omega arith) c.negate_all.ensures
 
 pub negate-returns-else-depth-gt0 : goal.negate-returns-else-depth-gt0
 negate-returns-else-depth-gt0 t c =
-    ways.negate_one c.args.ns.now _ _ _ c.args.out.now (omega (arith, c.requires)) _ _ c.word_at.ensures c.opposed_word.ensures (omega (arith, c.if-depth-gt0.false))
+    ways.negate_one c.args.ns.now _ _ _ c.args.out.now (omega (arith, c.requires)) _ _ c.word_at.ensures
+    c.opposed_word.ensures (omega (arith, c.if-depth-gt0.false))
 
 pub negate_all-loop-k-init : goal.negate_all-loop-k-init
 negate_all-loop-k-init t c = (refl, ways.negated_none _)
 
 pub negate_all-overflow_add-i : goal.negate_all-overflow_add-i
 negate_all-overflow_add-i t c = omega (arith, c.requires)
-
-pub negate_all-size_at-s-requires : goal.negate_all-size_at-s-requires
-negate_all-size_at-s-requires t c = search rules
 
 pub negate_all-overflow_sub-n : goal.negate_all-overflow_sub-n
 negate_all-overflow_sub-n t c = omega (arith, c.loop-k-test)
@@ -79,21 +66,6 @@ negate_all-returns-then-n-k t c =
 pub negate_all-overflow_add-i-in-loop-k : goal.negate_all-overflow_add-i-in-loop-k
 negate_all-overflow_add-i-in-loop-k t c = omega (arith, c.requires)
 
-pub negate_all-offset_bounds-out-k : goal.negate_all-offset_bounds-out-k
-negate_all-offset_bounds-out-k t c = search rules
-
-pub negate_all-slice_bounds-negate-count : goal.negate_all-slice_bounds-negate-count
-negate_all-slice_bounds-negate-count t c = search rules
-
-pub negate_all-slice_bounds-negate-start : goal.negate_all-slice_bounds-negate-start
-negate_all-slice_bounds-negate-start t c = search rules
-
-pub negate_all-slice_bounds-negate-end : goal.negate_all-slice_bounds-negate-end
-negate_all-slice_bounds-negate-end t c = search rules
-
-pub negate_all-negate-requires : goal.negate_all-negate-requires
-negate_all-negate-requires t c = search rules
-
 pub negate_all-overflow_add-k : goal.negate_all-overflow_add-k
 negate_all-overflow_add-k t c =
     omega (arith, c.requires, c.size_at-s.ensures)
@@ -104,7 +76,8 @@ negate_all-loop-k-smaller t c = omega (arith, c.size_at-s.ensures)
 pub negate_all-loop-k-preserved : goal.negate_all-loop-k-preserved
 negate_all-loop-k-preserved t c = (
   search (rules, c.loop-k.invariant.0),
-  ways.negate_more c.args.ns.now _ _ _ _ _ c.loop-k.out c.negate.new.out (omega (arith, c.requires, c.loop-k.invariant.0)) c.loop-k-test.true c.if-n-k.false c.size_at-s.ensures.0 (omega arith) c.negate.ensures c.loop-k.invariant.1,
+  ways.negate_more c.args.ns.now _ _ _ _ _ c.loop-k.out c.negate.new.out (omega (arith, c.requires, c.loop-k.invariant.0))
+      c.loop-k-test.true c.if-n-k.false c.size_at-s.ensures.0 (omega arith) c.negate.ensures c.loop-k.invariant.1,
 )
 
 pub negate_all-shape_of-out : goal.negate_all-shape_of-out

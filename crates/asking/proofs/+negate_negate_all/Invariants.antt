@@ -1,5 +1,4 @@
--- `asking::negate` and `asking::negate_all` meet their contracts, a cycle of calls in which the connectives that may still nest fall. Each
--- way out is a law of Negating.antt.
+-- What a loop of `asking::negate` and `asking::negate_all` keeps, and what falls; Answers.antt says the argument.
 use Prim.Native.Nat.{◌+◌, ◌-◌, ◌*◌}
 use mathlib.Core.Path.{◌≡◌}
 use lib.ListN.{length}

@@ -14,4 +14,5 @@ returns-then-out-n c = ways.no_room _ _ _ _ _ c.if-out-n.true
 pub returns : goal.returns
 returns c =
     ways.asks _ _ _ _ c.args.out.now c.gather-r.new.out _
-    (length c.args.out.now - 1) _ _ c.if-n-ge-QUESTION_ROOM.false c.if-out-n.false (omega arith) (omega arith) c.gather-r.ensures c.put_node.ensures
+    (length c.args.out.now - 1) _ _ c.if-n-ge-QUESTION_ROOM.false c.if-out-n.false (omega arith) (omega arith)
+    c.gather-r.ensures c.put_node.ensures

@@ -1,4 +1,4 @@
--- `asking::copy` meets its contract: after k words the first k of the output are those from i on.
+-- What the loop of `asking::copy` keeps, and what falls; Answers.antt says the argument.
 use Prim.Native.Nat.{◌-◌}
 use Rattle.asking.proofs.Turned.{Copied}
 use Rattle.asking.proofs.copy.Given as goal

@@ -1,4 +1,4 @@
--- `asking::ends` meets its contract: after k nodes their ends are counted (EndsCounted.antt).
+-- What the loop of `asking::ends` keeps, and what falls; Answers.antt says the argument.
 use Prim.Native.Nat.{◌-◌}
 use Rattle.asking.proofs.EndsCounted.{Counted}
 use Rattle.asking.proofs.ends.Given as goal

@@ -1,4 +1,4 @@
--- `asking::seek` meets its contract: the trees passed have the ends before the one sought (Seeking.antt).
+-- What the loop of `asking::seek` keeps, and what falls; Answers.antt says the argument.
 use Prim.Native.Nat.{◌-◌}
 use Rattle.nodes.specs.Words.{node_at}
 use Rattle.asking.proofs.Seeking.{Seeking}

@@ -1,4 +1,4 @@
--- `differences::lower_row` meets its contract. The loop's invariant: the row's cells before j are lowered, all others are as they were.
+-- What the loop of `differences::lower_row` keeps, and what falls; Answers.antt says the argument.
 use Prim.Native.Nat.{◌+◌, ◌-◌, ◌*◌, ◌≤◌}
 use Rattle.differences.specs.Table.{numbers}
 use Rattle.differences.specs.Rows.{Part, lowered}

@@ -1,4 +1,4 @@
--- `differences::start` meets its contract: each turn makes the entries of one number (Starts.antt).
+-- What the loop of `differences::start` keeps, and what falls; Answers.antt says the argument.
 use Prim.Native.Nat.{◌-◌}
 use Rattle.differences.specs.Table.{numbers}
 use Rattle.differences.proofs.Starts.{Begun}

@@ -1,4 +1,4 @@
--- `differences::work_in` meets its contract. The loop's invariant: the rows before i are lowered, all others are as they were.
+-- What the loop of `differences::work_in` keeps, and what falls; Answers.antt says the argument.
 use Prim.Native.Nat.{◌-◌}
 use Rattle.differences.specs.Table.{numbers}
 use Rattle.differences.proofs.Rows.{LoweredTo}

@@ -1,5 +1,4 @@
--- `folding::node` and `folding::children` meet their contracts, a cycle of calls in which the nodes left fall: `node` spends one,
--- `children` at least one a child. Each way out is a law of Walk.antt.
+-- What falls in the calls of `folding::node` and `folding::children`; Answers.antt says the argument.
 use Prim.Native.Nat.{◌+◌, ◌*◌}
 use Rattle.folding.proofs.+children_node.Given as goal
 

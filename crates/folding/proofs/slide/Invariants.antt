@@ -1,4 +1,4 @@
--- `folding::slide` meets its contract: each turn moves one more node.
+-- What the loop of `folding::slide` keeps, and what falls; Answers.antt says the argument.
 use Prim.Native.Nat.{◌-◌}
 use Rattle.folding.proofs.Sliding.{Sliding}
 use Rattle.folding.proofs.slide.Given as goal

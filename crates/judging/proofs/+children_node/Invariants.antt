@@ -1,5 +1,4 @@
--- `judging::node` and `judging::children` meet their contracts, a cycle of calls in which the nodes left fall: `node` spends one,
--- `children` at least one a child. Each way out is a law of Walk.antt.
+-- What falls in the calls of `judging::node` and `judging::children`; Answers.antt says the argument.
 use Prim.Native.Nat.{◌+◌, ◌*◌}
 use Rattle.judging.proofs.+children_node.Given as goal
 

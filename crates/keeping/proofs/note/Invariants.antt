@@ -1,4 +1,4 @@
--- `keeping::note` meets its contract: each turn makes a question known that a mark answers, or none (Knowing.antt).
+-- What the loop of `keeping::note` keeps, and what falls; Answers.antt says the argument.
 use Prim.Native.Nat.{◌-◌, ◌*◌}
 use Rattle.keeping.specs.Kept.{Notes}
 use Rattle.keeping.proofs.note.Given as goal

@@ -1,4 +1,4 @@
--- `keeping::recall` meets its contract: each turn learns from one more assignment (Knowing.antt).
+-- What the loop of `keeping::recall` keeps, and what falls; Answers.antt says the argument.
 use Prim.Native.Nat.{◌-◌}
 use Rattle.nodes.specs.Words.{node_at}
 use Rattle.keeping.specs.Kept.{Learns}

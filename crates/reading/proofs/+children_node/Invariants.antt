@@ -1,5 +1,4 @@
--- `reading::node` and `reading::children` meet their contracts: each way out is one of Ways.antt. The bytes left fall: a node is read
--- past its tag before its children, and each child is read before its younger siblings.
+-- What falls in the calls of `reading::node` and `reading::children`; Answers.antt says the argument.
 use Prim.Native.Nat.{◌+◌, ◌-◌, ◌*◌}
 use lib.ListN.{length}
 use Rattle.reading.proofs.+children_node.Given as goal

@@ -11,12 +11,14 @@ take_on : (a k n : ℕ) (xs ys : List ℕ) → a ≤ length xs → n ≤ length 
 take_on a k n xs ys within fits =
     let both = take-add a n (put_mid a k xs ys) in
     let before = take-put_mid_below a k xs ys a (le_refl a) within in
-    let after : drop a (put_mid a k xs ys) ≡ ys ++ post_of a k xs = drop_at (take a xs) (ys ++ post_of a k xs) a (length-take-le a xs within) in
+    let after : drop a (put_mid a k xs ys) ≡ ys ++ post_of a k xs = drop_at (take a xs) (ys ++ post_of a k xs)
+    a (length-take-le a xs within) in
     let read = take-append-le n ys (post_of a k xs) fits in
     cc
 
 pub loop-n-preserved : goal.loop-n-preserved
 loop-n-preserved g c =
     let n = c.loop-n.n in
-    let joined = take_on n (length c.loop-n.text - n) c.in_ok-more.more c.loop-n.text c.read.new.buf c.loop-n.invariant.0 c.in_ok-more.ensures.bound.0 in
+    let joined = take_on n (length c.loop-n.text - n) c.in_ok-more.more c.loop-n.text c.read.new.buf
+    c.loop-n.invariant.0 c.in_ok-more.ensures.bound.0 in
     (search rules, subst (Consumes _ _) joined (Consumes-trans _ _ _ _ _ c.loop-n.invariant.1 c.in_ok-more.ensures.bytes.0))

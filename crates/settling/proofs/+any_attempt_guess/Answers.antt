@@ -69,7 +69,8 @@ pub guess-returns-then-left-eq0 : goal.guess-returns-then-left-eq0
 guess-returns-then-left-eq0 t c = guessing.guess_none _ _ _ _ _ _ _ (λ os w few time. omega (arith, c.if-left-eq0.true))
 
 pub guess-returns-then-many-gt-QUESTION_ROOM : goal.guess-returns-then-many-gt-QUESTION_ROOM
-guess-returns-then-many-gt-QUESTION_ROOM t c = guessing.guess_none _ _ _ _ _ _ _ (λ os w few time. omega (arith, c.if-many-gt-QUESTION_ROOM.true, many_few os _ _ _ w))
+guess-returns-then-many-gt-QUESTION_ROOM t c =
+    guessing.guess_none _ _ _ _ _ _ _ (λ os w few time. omega (arith, c.if-many-gt-QUESTION_ROOM.true, many_few os _ _ _ w))
 
 pub guess-bounds-ors-many : goal.guess-bounds-ors-many
 guess-bounds-ors-many t c =

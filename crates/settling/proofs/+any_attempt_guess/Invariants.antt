@@ -1,4 +1,4 @@
--- `settling::guess`, `attempt` and `any` meet their contracts: each way out is one of Guessing.antt. `left` falls with each call.
+-- What falls in the calls of `settling::guess`, `attempt` and `any`; Answers.antt says the argument.
 use Rattle.settling.proofs.+any_attempt_guess.Given as goal
 
 abbrev pub decreases-any : goal.decreases-any

@@ -1,4 +1,4 @@
--- `settling::bits` meets its contract: from the highest boolean down (Showing.antt).
+-- What the loop of `settling::bits` keeps, and what falls; Answers.antt says the argument.
 use Rattle.settling.proofs.Showing as showing
 use Rattle.settling.proofs.bits.Given as goal
 

@@ -13,7 +13,8 @@ take-step-requires c =
 
 pub returns-then-not-step : goal.returns-then-not-step
 returns-then-not-step c =
-    taking.settle_stops _ _ _ _ _ _ _ _ _ _ _ _ c.loop-i.invariant c.loop-i-test.true _ _ _ _ _ _ c.take-step.ensures (not-true _ c.if-not-step.true) _
+    taking.settle_stops _ _ _ _ _ _ _ _ _ _ _ _ c.loop-i.invariant c.loop-i-test.true _ _ _ _ _ _ c.take-step.ensures
+    (not-true _ c.if-not-step.true) _
 
 pub loop-i-smaller : goal.loop-i-smaller
 loop-i-smaller c =
@@ -21,7 +22,8 @@ loop-i-smaller c =
 
 pub loop-i-preserved : goal.loop-i-preserved
 loop-i-preserved c =
-    taking.progress_more _ _ _ _ _ _ _ _ _ _ _ _ c.loop-i.invariant c.loop-i-test.true _ _ _ _ _ _ c.take-step.ensures (not-false _ c.if-not-step.false)
+    taking.progress_more _ _ _ _ _ _ _ _ _ _ _ _ c.loop-i.invariant c.loop-i-test.true _ _ _ _ _ _ c.take-step.ensures
+    (not-false _ c.if-not-step.false)
 
 pub returns : goal.returns
 returns c = taking.settle_ends _ _ _ _ _ _ _ _ _ _ _ _ c.loop-i.invariant c.loop-i-test.false

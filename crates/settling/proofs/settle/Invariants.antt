@@ -1,4 +1,4 @@
--- `settling::settle` meets its contract: each turn takes a node (Taking.antt), and the nodes left fall.
+-- What the loop of `settling::settle` keeps, and what falls; Answers.antt says the argument.
 use Prim.Native.Nat.{◌-◌}
 use Rattle.nodes.specs.Words.{node_at}
 use Rattle.settling.proofs.Taking as taking

@@ -1,4 +1,4 @@
--- `settling::show` meets its contract: the numbers are written in order (Showing.antt).
+-- What the loop of `settling::show` keeps, and what falls; Answers.antt says the argument.
 use Prim.Native.Nat.{◌-◌}
 use Rattle.condition.specs.Limits.{last_number}
 use Rattle.settling.proofs.Showing as showing

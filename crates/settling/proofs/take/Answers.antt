@@ -25,4 +25,5 @@ returns-in-Bound c =
 
 pub returns-else-many-ge-QUESTION_ROOM : goal.returns-else-many-ge-QUESTION_ROOM
 returns-else-many-ge-QUESTION_ROOM c =
-    taking.take_or _ _ _ _ _ _ c.requires.0 _ _ _ _ (sym c.node_at.ensures ∙ c.in-Join.is) c.if-all.false c.if-many-ge-QUESTION_ROOM.false refl
+    taking.take_or _ _ _ _ _ _ c.requires.0 _ _ _ _ (sym c.node_at.ensures ∙ c.in-Join.is) c.if-all.false
+    c.if-many-ge-QUESTION_ROOM.false refl

@@ -34,7 +34,12 @@ overflow_add-q-in-loop-asked c =
 pub loop-asked-preserved : goal.loop-asked-preserved
 loop-asked-preserved c =
     goes_on c.loop-asked.invariant c.loop-asked-test.true c.if-q-end.true c.answer-reply.ensures c.if-reply.false
-    (record { bits_long = c.bits-in-loop-asked-1.given; numbers_long = c.numbers-in-loop-asked-1.given; known_long = c.known-in-loop-asked-1.given; few = c.answer-reply.ensures.few })
+    (record {
+      bits_long = c.bits-in-loop-asked-1.given;
+      numbers_long = c.numbers-in-loop-asked-1.given;
+      known_long = c.known-in-loop-asked-1.given;
+      few = c.answer-reply.ensures.few;
+    })
 
 pub returns : goal.returns
 returns c =

@@ -1,4 +1,4 @@
--- `sweeping::sweep` meets its contract: each turn of the loop is a step of the definition's machine (Stages.antt).
+-- What the loop of `sweeping::sweep` keeps, and what falls; Answers.antt says the argument.
 use Prim.Native.Nat.{◌-◌}
 use Rattle.nodes.specs.Words.{node_at}
 use Rattle.sweeping.proofs.Stages.{Goes}

@@ -11,5 +11,6 @@ returns-in-Refused c =
 
 pub returns-in-Tree : goal.returns-in-Tree
 returns-in-Tree c =
-    ways.find_settles _ _ c.if-numbers-ne-ASSIGNED.false _ _ c.read-held.ensures (λ i. (c.shared_slice_known-1.given i).fits) _ c.in-Tree.is _ _ _
+    ways.find_settles _ _ c.if-numbers-ne-ASSIGNED.false _ _ c.read-held.ensures (λ i. (c.shared_slice_known-1.given i).fits)
+    _ c.in-Tree.is _ _ _
     c.find.ensures c.find.auto.numbers c.shown.ensures

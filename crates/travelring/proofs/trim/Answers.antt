@@ -4,7 +4,8 @@ use Rattle.travelring.proofs.trim.Goals as goal
 
 pub returns-then-room-bytes : goal.returns-then-room-bytes
 returns-then-room-bytes c =
-    ways.trim_long _ _ _ _ _ c.read-held.ensures (λ i. (c.shared_slice_known-1.given i).fits) _ c.in-Tree.is _ _ _ _ c.sweep-swept.ensures _ _ c.write-bytes.ensures c.if-room-bytes.true
+    ways.trim_long _ _ _ _ _ c.read-held.ensures (λ i. (c.shared_slice_known-1.given i).fits) _ c.in-Tree.is
+    _ _ _ _ c.sweep-swept.ensures _ _ c.write-bytes.ensures c.if-room-bytes.true
 
 pub returns-in-Refused : goal.returns-in-Refused
 returns-in-Refused c =
@@ -12,4 +13,6 @@ returns-in-Refused c =
 
 pub returns-else-room-bytes : goal.returns-else-room-bytes
 returns-else-room-bytes c =
-    ways.trim_ends _ _ _ _ _ c.read-held.ensures (λ i. (c.shared_slice_known-1.given i).fits) _ c.in-Tree.is _ _ _ _ c.sweep-swept.ensures _ _ c.write-bytes.ensures c.if-room-bytes.false _ c.live-ends.ensures _ c.ended.ensures
+    ways.trim_ends _ _ _ _ _ c.read-held.ensures (λ i. (c.shared_slice_known-1.given i).fits) _ c.in-Tree.is
+    _ _ _ _ c.sweep-swept.ensures _ _ c.write-bytes.ensures c.if-room-bytes.false _ c.live-ends.ensures
+    _ c.ended.ensures

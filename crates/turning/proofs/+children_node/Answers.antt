@@ -68,7 +68,8 @@ node-returns-in-Flag t c =
 
 pub node-returns-in-Bound : goal.node-returns-in-Bound
 node-returns-in-Bound t c =
-    walk.bound_marked c.node_at.ensures c.in-Bound.is (c.at_most.ensures _) c.turned-in-Bound.ensures c.if-left-eq0.false c.end-in-Bound.ensures
+    walk.bound_marked c.node_at.ensures c.in-Bound.is (c.at_most.ensures _) c.turned-in-Bound.ensures
+    c.if-left-eq0.false c.end-in-Bound.ensures
 
 pub node-returns-in-Join : goal.node-returns-in-Join
 node-returns-in-Join t c =

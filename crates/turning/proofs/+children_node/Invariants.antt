@@ -1,5 +1,4 @@
--- `turning::node` and `turning::children` meet their contracts, a cycle of calls in which the nodes left fall: `node` spends one,
--- `children` at least one a child. Each way out is a law of Walk.antt.
+-- What a loop of `turning::node` and `turning::children` keeps, and what falls; Answers.antt says the argument.
 use Rattle.condition.specs.Meaning.{given}
 use Rattle.nodes.specs.Words.{node_at}
 use Rattle.turning.proofs.Walk.{Walked}

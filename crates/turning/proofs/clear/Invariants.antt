@@ -1,4 +1,4 @@
--- `turning::clear` meets its contract: after the marks up to k they are cleared (Clearing.antt).
+-- What the loop of `turning::clear` keeps, and what falls; Answers.antt says the argument.
 use Prim.Native.Nat.{◌-◌}
 use Rattle.turning.proofs.Clearing.{Clearing}
 use Rattle.turning.proofs.clear.Given as goal

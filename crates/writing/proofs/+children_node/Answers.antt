@@ -23,7 +23,8 @@ children-overflow_add-result t c =
 
 pub children-returns : goal.children-returns
 children-returns t c =
-    walk.more_put c.if-k-eq0.false c.size_at-s.ensures.0 _ _ _ _ _ _ c.if-left-s.false c.out-1.given refl c.node-a.ensures c.children-b.ensures
+    walk.more_put c.if-k-eq0.false c.size_at-s.ensures.0 _ _ _ _ _ _ c.if-left-s.false c.out-1.given
+    refl c.node-a.ensures c.children-b.ensures
 
 pub node-returns-then-left-eq0 : goal.node-returns-then-left-eq0
 node-returns-then-left-eq0 t c = walk.nothing_left c.if-left-eq0.true
@@ -38,4 +39,5 @@ node-overflow_add-result t c =
 
 pub node-returns : goal.node-returns
 node-returns t c =
-    walk.node_put _ _ _ _ _ _ _ _ _ _ _ c.node_at-top.ensures c.count_at-k.ensures c.out-1.given refl c.put_own-a.ensures c.children-b.ensures
+    walk.node_put _ _ _ _ _ _ _ _ _ _ _ c.node_at-top.ensures c.count_at-k.ensures c.out-1.given refl
+    c.put_own-a.ensures c.children-b.ensures

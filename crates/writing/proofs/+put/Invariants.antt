@@ -1,4 +1,4 @@
--- `writing::put` meets its contract, a cycle of one in which the groups left fall. Each way out is a law of Room.antt.
+-- What falls in the calls of `writing::put`; Answers.antt says the argument.
 use Rattle.writing.proofs.+put.Given as goal
 
 abbrev pub decreases-put : goal.decreases-put

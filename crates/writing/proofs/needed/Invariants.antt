@@ -1,5 +1,4 @@
--- `writing::needed` meets its contract. The loop's invariant: the sum is that of the nodes passed, at most twelve bytes each. The measure is
--- what is left of the nodes.
+-- What the loop of `writing::needed` keeps, and what falls; Answers.antt says the argument.
 use Prim.Native.Nat.{◌≤◌, ◌*◌, ◌-◌}
 use mathlib.Core.Path.{◌≡◌}
 use Rattle.condition.specs.Limits.{groups, tree_room}

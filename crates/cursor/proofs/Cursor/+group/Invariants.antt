@@ -1,4 +1,4 @@
--- `Cursor::group` meets its contract: each way out is an equation of `number_from` (Groups.antt); the groups left fall.
+-- What falls in the calls of `Cursor::group`; Answers.antt says the argument.
 use Rattle.cursor.proofs.Cursor.+group.Given as goal
 
 abbrev pub decreases-group : goal.decreases-group
