@@ -203,7 +203,7 @@ pub record Squeezed (a b : Assignment) : Type 0 where
   pub flags : (p : ℕ) → b.flag p ≡ a.flag p
   pub meets : (e : End) → EndWithin e → met e a ≡ true → met e b ≡ true
 
--- as far as a bound pushes: x - y <= c down to c = -largestBound - 1, the negation of the largest
+-- as far as a bound pushes: x - y <= c down to c = -largest_bound - 1, the negation of the largest
 within_fits : (e : End) → EndWithin e → EndFits last_number (largest_bound + 1) e
 within_fits (is p) w = tt
 within_fits (is_not p) w = tt

@@ -18,8 +18,8 @@ row_of i j h = omega arith
 pub column_of : (i j : ℕ) → j < numbers → (i * numbers + j) % numbers ≡ j
 column_of i j h = omega arith
 
-pub place_of : (k : ℕ) → k / numbers * numbers + k % numbers ≡ k
-place_of k = omega arith
+pub place_of_lem : (k : ℕ) → k / numbers * numbers + k % numbers ≡ k
+place_of_lem k = omega arith
 
 pub part_none : (from : ℕ) (f : ℕ → ℕ) (t : List ℕ) → Part from from f t t
 part_none from f t = record { size = refl; done = λ k l m. absurd (omega arith); before = λ k l. refl; after = λ k l. refl }

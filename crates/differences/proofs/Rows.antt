@@ -13,7 +13,7 @@ use Rattle.differences.specs.Table.{numbers, offset, cell, Ready, Adds}
 use Rattle.differences.specs.Rows.{Part, lowered, Lowers}
 use Rattle.differences.proofs.Closed.{upper}
 use Rattle.differences.proofs.Lowered.{stays, way_least, adds}
-use Rattle.differences.proofs.Parts.{row_of, column_of, place_of, part_kept, part_on}
+use Rattle.differences.proofs.Parts.{row_of, column_of, place_of_lem, part_kept, part_on}
 
 -- the cell at place k of the lowered table
 abbrev pub round : List ℕ → (x y c : ℕ) → ℕ → ℕ
@@ -99,7 +99,7 @@ module _ {t : List ℕ} {x y c i : ℕ} {t' : List ℕ} (p : LoweredTo i t x y c
       (part_on p.part (omega arith) (part_kept (i * numbers) (i * numbers + numbers) t') (omega arith)
       (λ k lo hi.
       p.part.after k lo
-      ∙ rw (place_of k) at
+      ∙ rw (place_of_lem k) at
       (stays p.ready c (k / numbers) (k % numbers) (omega arith) (omega arith) (short k (row_is i k lo hi)))))
 
 pub rows_added : {t : List ℕ} {x y c i : ℕ} {t' : List ℕ} → LoweredTo i t x y c t' → numbers ≤ i →

@@ -16,7 +16,7 @@ use Rattle.condition.proofs.Negation.{up, down}
 use Rattle.condition.proofs.Small.{minus}
 use Rattle.differences.specs.Table.{numbers, cell, Meets, Closed, tightest, Starts, Adds, Shown}
 use Rattle.differences.proofs.Closed.{meets_held, column_meets, tightest_meets}
-use Rattle.differences.proofs.Parts.{place_of}
+use Rattle.differences.proofs.Parts.{place_of_lem}
 
 column : List ℕ → ℕ → Assignment
 column t j = record { flag = λ p. false; number = λ i. pos (cell t i j) -ℤ pos (cell t 0 j) }
@@ -36,7 +36,7 @@ pub closed_unique : {s t : List ℕ} → Closed s → Closed t → ((a : Assignm
 closed_unique {s} {t} h k f =
     ext_get_or 0 s t (h.size ∙ sym k.size)
     (λ p l.
-    rw (place_of p) at (le_antisymm
+    rw (place_of_lem p) at (le_antisymm
     (cell_most h (λ a. (f a).0) (p / numbers) (p % numbers) (omega (arith, h.size)) (omega arith))
     (cell_most k (λ a. (f a).1) (p / numbers) (p % numbers) (omega (arith, h.size)) (omega arith))))
 

@@ -11,6 +11,9 @@ ghost use Rattle.folding.specs.Parts.{Room, Slid, EndRight, ShutRight, NodeRight
 use condition::TREE_ROOM;
 use nodes::{Node, node_at, put_node, size_at};
 
+// "one child left is that child"
+const ONE_LEFT: u32 = 1;
+
 // A folded tree: false (0), true (1) or no constant (2), its nodes, and the cut as counted from the end after it.
 #[derive(Clone, Copy)]
 struct Kid {
@@ -103,7 +106,7 @@ fn shut(all: bool, left: Kids, out: &mut [u64], j: usize) -> Kid
         put_node(out, j, Node::Plain(all));
         return a_kid(kind_of(all), 1, cut);
     }
-    if count == 1 {
+    if count == ONE_LEFT {
         slide(out, j, size);
         return a_kid(2, size, cut);
     }
