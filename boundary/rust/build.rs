@@ -1,4 +1,4 @@
-//! Finds the proved library, which `boundary/library` writes for the processor it runs on, and links it.
+//! Finds the proved library, which `boundary/library` writes, and links it.
 use std::env::var;
 use std::path::PathBuf;
 use std::process::exit;

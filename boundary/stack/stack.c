@@ -39,7 +39,7 @@ static size_t used(void (*call)(void)) {
     makecontext(&there, call, 0);
     swapcontext(&here, &there);
     size_t low = 0;
-    while (low < WORDS && stack[low] == PAINT) /* an empty function may use no stack at all, as on aarch64 */
+    while (low < WORDS && stack[low] == PAINT) /* an empty function may use no stack at all */
         low++;
     if (low == 0) {
         puts("the painted stack is too small");
