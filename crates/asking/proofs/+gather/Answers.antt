@@ -1,7 +1,6 @@
 -- `asking::gather` meets its contract; the connectives that may still nest fall. Each way out is a law of Gathering.antt.
 use mathlib.Core.Path.{sym, ◌∙◌}
 use native.Mathlib.Omega.{arith}
-use borrow.Author.Rules.{rules}
 use Rattle.asking.proofs.Gathering as ways
 use Rattle.asking.proofs.+gather.Goals as goal
 
