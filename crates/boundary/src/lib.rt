@@ -1,4 +1,5 @@
-// The C boundary. Each call returns document 01's number and writes its report, a place and what comes with it, in every answer.
+// The C boundary. Each call returns document 01's number and writes its report, a place and what comes with it, in every answer. The crate
+// boundary_c exports these calls.
 #![tactic(auto)]
 
 ghost use Rattle.std.specs.Prelude.{cond, ◌≡◌};
@@ -14,13 +15,7 @@ fn bit(b: bool) -> u64
 }
 
 // Judges the condition; the report is place and value.
-#[unsafe(no_mangle)]
-pub extern "C" fn travelring_judge(
-    tree: &[u8],
-    flags: u32,
-    numbers: &[Whole],
-    report: &mut [u64; 2],
-) -> u32
+pub fn travelring_judge(tree: &[u8], flags: u32, numbers: &[Whole], report: &mut [u64; 2]) -> u32
     ensures { ReportsJudged (judged tree.now flags numbers.now) result report.old report.new }
 {
     let judged = travelring::judge(tree, flags, numbers);
@@ -31,8 +26,7 @@ pub extern "C" fn travelring_judge(
 }
 
 // Finds an assignment; the report is place and boolean bits.
-#[unsafe(no_mangle)]
-pub extern "C" fn travelring_find(tree: &[u8], numbers: &mut [Whole], report: &mut [u64; 2]) -> u32
+pub fn travelring_find(tree: &[u8], numbers: &mut [Whole], report: &mut [u64; 2]) -> u32
     ensures { ReportsFound tree.now numbers.old numbers.new result report.old report.new }
 {
     let found = travelring::find(tree, numbers);
@@ -43,13 +37,7 @@ pub extern "C" fn travelring_find(tree: &[u8], numbers: &mut [Whole], report: &m
 }
 
 // Trims the condition; the report is place, questions asked, ends of the result and bytes written.
-#[unsafe(no_mangle)]
-pub extern "C" fn travelring_trim(
-    tree: &[u8],
-    ration: u32,
-    out: &mut [u8],
-    report: &mut [u64; 4],
-) -> u32
+pub fn travelring_trim(tree: &[u8], ration: u32, out: &mut [u8], report: &mut [u64; 4]) -> u32
     ensures { ReportsTrimmed tree.now ration out.old out.new result report.old report.new }
 {
     let trimmed = travelring::trim(tree, ration, out);
