@@ -1,3 +1,2 @@
 -- What a report says of the answer, and that no choice is left.
 pub mod Once
-mod Reporting

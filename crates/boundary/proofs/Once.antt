@@ -9,9 +9,10 @@ use lib.ListN.{get_or, set}
 use lib.Seq.{get_or-set_other}
 use Rattle.condition.proofs.Answers.{apart}
 use Rattle.cursor.proofs.Refusals.{back}
-use Rattle.travelring.specs.declared.Found.{Found}
-use Rattle.travelring.specs.declared.Found.TheVariants as found
+use Rattle.std.specs.Prelude.{Result, Ok, Err}
+use Rattle.travelring.specs.declared.FindRefusal.TheVariants.{Bytes, Unfit, Nothing}
 use Rattle.travelring.specs.Judging.{judged}
+use Rattle.travelring.specs.declared.FindRefusal.{FindRefusal}
 use Rattle.travelring.specs.Finding.{told_found}
 use Rattle.travelring.proofs.Once.{find_once}
 use Rattle.boundary.specs.Reports.{Reports, ReportsJudged, ReportsFound, ReportsTrimmed}
@@ -46,11 +47,11 @@ place_none : (report : List ℕ) → get_or (set report 0 0) 0 0 ≡ 0
 place_none [] = refl
 place_none (x ∷ report) = refl
 
-found_place : (r : Found) → (told_found r).answer ≡ 0 → (told_found r).place ≡ 0
-found_place (found.Shown bits) e = refl
-found_place found.Nothing e = refl
-found_place (found.Refused why) e = absurd (apart (back why).of 0 refl e)
-found_place found.Unfit e = refl
+found_place : (r : Result ℕ FindRefusal) → (told_found r).answer ≡ 0 → (told_found r).place ≡ 0
+found_place (Ok bits) e = refl
+found_place (Err (Bytes why)) e = absurd (apart (back why).of 0 refl e)
+found_place (Err Unfit) e = refl
+found_place (Err Nothing) e = refl
 
 pub find_once_in_c : (s : List ℕ) (numbers numbers₁ numbers₂ : List ℤ) (r r' : ℕ) (report report₁ report₂ : List ℕ) →
     ReportsFound s numbers numbers₁ r report report₁ → ReportsFound s numbers numbers₂ r' report report₂ →

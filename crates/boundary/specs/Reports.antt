@@ -1,9 +1,9 @@
 -- What the calls of the C boundary return and write: document 01's number, and in every answer a report of the place and
 -- what comes with the answer.
-use Rattle.std.specs.Prelude.{ℕ, ◌≡◌, List, cond, ℤ, length, set}
+use Rattle.std.specs.Prelude.{ℕ, ◌≡◌, List, cond, ℤ, length, set, Result}
 use Rattle.travelring.specs.declared.Judgement.{Judgement}
 use Rattle.travelring.specs.declared.Finding.{Finding}
-use Rattle.travelring.specs.declared.Found.{Found}
+use Rattle.travelring.specs.declared.FindRefusal.{FindRefusal}
 use Rattle.travelring.specs.Finding.{told_found, Finds}
 use Rattle.travelring.specs.Trimming.{Outcome, outcome, onto}
 
@@ -21,7 +21,7 @@ abbrev pub ReportsFinding : Finding → ℕ → List ℕ → List ℕ → Type 0
 ReportsFinding f = Reports f.answer f.place f.flags
 
 pub record ReportsFound (s : List ℕ) (numbers numbers' : List ℤ) (r : ℕ) (report report' : List ℕ) : Type 0 where
-  pub found : Found
+  pub found : Result ℕ FindRefusal
   pub finds : Finds s numbers found numbers'
   pub reports : ReportsFinding (told_found found) r report report'
 

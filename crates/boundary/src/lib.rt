@@ -2,26 +2,19 @@
 // boundary_c exports these calls.
 #![tactic(auto)]
 
-ghost use Rattle.std.specs.Prelude.{cond, ◌≡◌};
 ghost use Rattle.travelring.specs.Judging.{judged};
 ghost use Rattle.boundary.specs.Reports.{ReportsJudged, ReportsFound, ReportsTrimmed};
 
 use condition::Whole;
-
-fn bit(b: bool) -> u64
-    ensures { result ≡ cond b 1 0 }
-{
-    if b { 1 } else { 0 }
-}
+use travelring::{Finding, Judgement, Trimming, bytes_written};
 
 // Judges the condition; the report is place and value.
 pub fn travelring_judge(tree: &[u8], flags: u32, numbers: &[Whole], report: &mut [u64; 2]) -> u32
     ensures { ReportsJudged (judged tree.now flags numbers.now) result report.old report.new }
 {
-    let judged = travelring::judge(tree, flags, numbers);
-    let judgement = judged.told();
+    let judgement = Judgement::from(travelring::judge(tree, flags, numbers));
     report[0] = judgement.place as u64;
-    report[1] = bit(judgement.value);
+    report[1] = u64::from(judgement.value);
     judgement.answer
 }
 
@@ -29,8 +22,7 @@ pub fn travelring_judge(tree: &[u8], flags: u32, numbers: &[Whole], report: &mut
 pub fn travelring_find(tree: &[u8], numbers: &mut [Whole], report: &mut [u64; 2]) -> u32
     ensures { ReportsFound tree.now numbers.old numbers.new result report.old report.new }
 {
-    let found = travelring::find(tree, numbers);
-    let finding = found.told();
+    let finding = Finding::from(travelring::find(tree, numbers));
     report[0] = finding.place as u64;
     report[1] = finding.flags as u64;
     finding.answer
@@ -41,10 +33,10 @@ pub fn travelring_trim(tree: &[u8], ration: u32, out: &mut [u8], report: &mut [u
     ensures { ReportsTrimmed tree.now ration out.old out.new result report.old report.new }
 {
     let trimmed = travelring::trim(tree, ration, out);
-    let trimming = trimmed.told();
+    let trimming = Trimming::from(trimmed);
     report[0] = trimming.place as u64;
     report[1] = trimming.questions as u64;
     report[2] = trimming.ends as u64;
-    report[3] = trimmed.length() as u64;
+    report[3] = bytes_written(trimmed) as u64;
     trimming.answer
 }

@@ -27,16 +27,18 @@ use Rattle.condition.proofs.Trimmed.{needs_most, asked_is, finished_is, finished
 use Rattle.condition.proofs.Trimmed.{trimmed_within, trimmed_firm, trimmed_false, trimmed_true}
 use Rattle.condition.proofs.Count.{counted, count_fixed}
 use Rattle.cursor.proofs.Refusals.{refusal_of, there}
-use Rattle.travelring.specs.declared.Judged.{Judged}
-use Rattle.travelring.specs.declared.Judged.TheVariants as judged-variants
-use Rattle.travelring.specs.declared.Found.{Found}
-use Rattle.travelring.specs.declared.Found.TheVariants as found
+use Rattle.std.specs.Prelude.{Result, Ok, Err}
+use Rattle.travelring.specs.declared.JudgeRefusal.{JudgeRefusal}
+use Rattle.travelring.specs.declared.JudgeRefusal.TheVariants as judge_refusal
+use Rattle.travelring.specs.declared.FindRefusal.{FindRefusal}
+use Rattle.travelring.specs.declared.FindRefusal.TheVariants as find_refusal
 use Rattle.travelring.specs.declared.Trimmed.{Trimmed}
-use Rattle.travelring.specs.declared.Trimmed.TheVariants as trimmed-variants
+use Rattle.travelring.specs.declared.TrimRefusal.{TrimRefusal}
+use Rattle.travelring.specs.declared.TrimRefusal.TheVariants as trim_refusal
 use Rattle.travelring.specs.Judging.{judged_tree, told, judged}
 use Rattle.travelring.specs.Finding.{told_found, FindsTree, FindsRead}
-use Rattle.travelring.specs.Trimming.{Outcome, refuses, ended, fitted, outcome, told_trimmed, length_told, onto, Trims, ended_by}
-use Rattle.travelring.proofs.Outcomes.{by_read, too_long, fits, told_ended, long_ended}
+use Rattle.travelring.specs.Trimming.{Outcome, refuses, ended, fitted, outcome, told_trimmed, length_told, onto, Trims}
+use Rattle.travelring.proofs.Outcomes.{by_read, too_long, fits}
 use Rattle.demands.specs.Demands.{TrimCall, JudgeCall, FindCall, said, result, Room, TrimTable, JudgeTable, FindTable}
 use Rattle.demands.specs.Demands.{Demand1, Finished, Writes, finished, stopped, Written, Demand2, Demand3}
 use Rattle.demands.proofs.Finding.{find_answers}
@@ -59,8 +61,8 @@ table c =
 
 -- ---- every input has an answer
 
-trims_as : (s : List ℕ) (ration : ℕ) (before : List ℕ) (o : Outcome) → outcome s ration (length before) ≡ o → (r : Trimmed) →
-    told_trimmed r ≡ o.said → length_told r ≡ length o.written → (r : Trimmed) × (after : List ℕ) × Trims s ration before r after
+trims_as : (s : List ℕ) (ration : ℕ) (before : List ℕ) (o : Outcome) → outcome s ration (length before) ≡ o → (r : Result Trimmed TrimRefusal) →
+    told_trimmed r ≡ o.said → length_told r ≡ length o.written → (r : Result Trimmed TrimRefusal) × (after : List ℕ) × Trims s ration before r after
 trims_as s ration before o e r h l = (
   r,
   onto o.written before,
@@ -71,13 +73,13 @@ trims_as s ration before o e r h l = (
   },
 )
 
-trim_answers : (s : List ℕ) (ration : ℕ) (before : List ℕ) → (r : Trimmed) × (after : List ℕ) × Trims s ration before r after
+trim_answers : (s : List ℕ) (ration : ℕ) (before : List ℕ) → (r : Result Trimmed TrimRefusal) × (after : List ℕ) × Trims s ration before r after
 trim_answers s ration before = by (read s) refl
   where
-    by : (x : Read) → read s ≡ x → (r : Trimmed) × (after : List ℕ) × Trims s ration before r after
+    by : (x : Read) → read s ≡ x → (r : Result Trimmed TrimRefusal) × (after : List ℕ) × Trims s ration before r after
     by (refusal n p) e =
         let h = there n p (refusals s n p e) in
-        trims_as s ration before (refuses n p) (by_read s ration (length before) (refusal n p) e) (trimmed-variants.Refused (refusal_of n p))
+        trims_as s ration before (refuses n p) (by_read s ration (length before) (refusal n p) e) (Err (trim_refusal.Bytes (refusal_of n p)))
         (simp (h.0, h.1)) refl
     by (tree t) e =
         let a = trimmed t ration in
@@ -85,10 +87,9 @@ trim_answers s ration before = by (read s) refl
         let needed = length (bytes a.tree) in
         cases (ltb room needed)
         (λ q. trims_as s ration before _ (by_read s ration room (tree t) e ∙ too_long room a (ltb-true room needed q))
-        (trimmed-variants.Long needed) refl refl)
+        (Err (trim_refusal.Long needed)) refl refl)
         (λ q. trims_as s ration before _ (by_read s ration room (tree t) e ∙ fits room a (ltb-false room needed q))
-        (ended_by a.finished a.asked (live a.tree) needed) (told_ended a a.finished needed refl)
-        (long_ended a.finished a.asked (live a.tree) needed))
+        (Ok record { finished = a.finished; questions = a.asked; ends = live a.tree; bytes = needed }) refl refl)
 
 judged_unfit : (s : List ℕ) (flags : ℕ) (numbers : List ℤ) → (length numbers ≡ last_number → ⊥) →
     judged s flags numbers ≡ record { answer = 11; place = 0; value = false }
@@ -100,18 +101,18 @@ judged_as : (s : List ℕ) (flags : ℕ) (numbers : List ℤ) → length numbers
 unfolding judged
 judged_as s flags numbers fit x e = simp (eq-eqb _ _ fit) (ap (λ y. judged_tree y (given flags numbers)) e)
 
-judge_answers : (s : List ℕ) (flags : ℕ) (numbers : List ℤ) → (r : Judged) × (told r ≡ judged s flags numbers)
+judge_answers : (s : List ℕ) (flags : ℕ) (numbers : List ℤ) → (r : Result Bool JudgeRefusal) × (told r ≡ judged s flags numbers)
 judge_answers s flags numbers = elim (ℕ_discrete (length numbers) last_number) [
   | yes e ↦ by e (read s) refl
-  | no h ↦ (judged-variants.Unfit, sym (judged_unfit s flags numbers h))
+  | no h ↦ (Err judge_refusal.Unfit, sym (judged_unfit s flags numbers h))
 ]
   where
-    by : length numbers ≡ last_number → (x : Read) → read s ≡ x → (r : Judged) × (told r ≡ judged s flags numbers)
+    by : length numbers ≡ last_number → (x : Read) → read s ≡ x → (r : Result Bool JudgeRefusal) × (told r ≡ judged s flags numbers)
     by fit (refusal n p) e =
         let h = there n p (refusals s n p e) in
-        (judged-variants.Refused (refusal_of n p), simp (h.0, h.1) (sym (judged_as s flags numbers fit (refusal n p) e)))
+        (Err (judge_refusal.Bytes (refusal_of n p)), simp (h.0, h.1) (sym (judged_as s flags numbers fit (refusal n p) e)))
     by fit (tree t) e =
-        (judged-variants.Value (holds t (given flags numbers)), sym (judged_as s flags numbers fit (tree t) e))
+        (Ok (holds t (given flags numbers)), sym (judged_as s flags numbers fit (tree t) e))
 
 -- ---- judge's and find's tables
 
@@ -125,20 +126,20 @@ judge_table c =
     }
 
 -- of a tree that none satisfies, and of one that some does
-none_found : (t : Tree) (before : List ℤ) (r : Found) (after : List ℤ) → FindsTree t before r after → (Satisfiable t → ⊥) →
+none_found : (t : Tree) (before : List ℤ) (r : Result ℕ FindRefusal) (after : List ℤ) → FindsTree t before r after → (Satisfiable t → ⊥) →
     (told_found r ≡ record { answer = 12; place = 0; flags = 0 }) × (after ≡ before)
-none_found t before (found.Shown bits) after h n = absurd (n (given bits after, h.0))
-none_found t before found.Nothing after h n = (refl, h.1)
-none_found t before (found.Refused why) after h n = absurd h
-none_found t before found.Unfit after h n = absurd h
+none_found t before (Ok bits) after h n = absurd (n (given bits after, h.0))
+none_found t before (Err find_refusal.Nothing) after h n = (refl, h.1)
+none_found t before (Err (find_refusal.Bytes why)) after h n = absurd h
+none_found t before (Err find_refusal.Unfit) after h n = absurd h
 
-some_found : (t : Tree) (before : List ℤ) (r : Found) (after : List ℤ) → FindsTree t before r after → Satisfiable t →
+some_found : (t : Tree) (before : List ℤ) (r : Result ℕ FindRefusal) (after : List ℤ) → FindsTree t before r after → Satisfiable t →
     let a = given (told_found r).flags after in
     ((told_found r).answer ≡ 0) × ((told_found r).place ≡ 0) × (holds t a ≡ true) × InRange a × (length after ≡ last_number)
-some_found t before (found.Shown bits) after h w = (refl, refl, h.0, h.1, h.2)
-some_found t before found.Nothing after h w = absurd (h.0 w)
-some_found t before (found.Refused why) after h w = absurd h
-some_found t before found.Unfit after h w = absurd h
+some_found t before (Ok bits) after h w = (refl, refl, h.0, h.1, h.2)
+some_found t before (Err find_refusal.Nothing) after h w = absurd (h.0 w)
+some_found t before (Err (find_refusal.Bytes why)) after h w = absurd h
+some_found t before (Err find_refusal.Unfit) after h w = absurd h
 
 find_table : (c : FindCall) → FindTable c
 find_table c =

@@ -19,25 +19,26 @@ use Rattle.condition.proofs.Small.{formed_named}
 use Rattle.condition.proofs.Deciding.{sat_is}
 use Rattle.condition.proofs.Given.{shown}
 use Rattle.cursor.proofs.Refusals.{refusal_of, there}
-use Rattle.travelring.specs.declared.Found.{Found}
-use Rattle.travelring.specs.declared.Found.TheVariants as found
+use Rattle.std.specs.Prelude.{Result, Ok, Err}
+use Rattle.travelring.specs.declared.FindRefusal.{FindRefusal}
+use Rattle.travelring.specs.declared.FindRefusal.TheVariants.{Bytes, Unfit, Nothing}
 use Rattle.travelring.specs.Finding.{FindsTree, FindsRead, Finds}
 
-tree_answers : (t : Tree) → Named t → (before : List ℤ) → (r : Found) × (after : List ℤ) × FindsTree t before r after
+tree_answers : (t : Tree) → Named t → (before : List ℤ) → (r : Result ℕ FindRefusal) × (after : List ℤ) × FindsTree t before r after
 tree_answers t w before =
     cases (sat t)
-    (λ e. let a = shown t w ((sat_is t).0 e) in (found.Shown a.bits, a.numbers, (a.true_there, a.range, a.long)))
-    (λ e. (found.Nothing, before, (λ s. true≢false (sym ((sat_is t).1 s) ∙ e), refl)))
+    (λ e. let a = shown t w ((sat_is t).0 e) in (Ok a.bits, a.numbers, (a.true_there, a.range, a.long)))
+    (λ e. (Err Nothing, before, (λ s. true≢false (sym ((sat_is t).1 s) ∙ e), refl)))
 
 read_answers : (s : List ℕ) → Octets s → (before : List ℤ) → (x : Read) → read s ≡ x →
-    (r : Found) × (after : List ℤ) × FindsRead x before r after
+    (r : Result ℕ FindRefusal) × (after : List ℤ) × FindsRead x before r after
 read_answers s octets before (tree t) e = tree_answers t (formed_named t (read_written s t octets e).1.formed) before
 read_answers s octets before (refusal n p) e =
     let h = there n p (refusals s n p e) in
-    (found.Refused (refusal_of n p), before, record { told = simp (h.0, h.1); kept = refl })
+    (Err (Bytes (refusal_of n p)), before, record { told = simp (h.0, h.1); kept = refl })
 
-pub find_answers : (s : List ℕ) → Octets s → (before : List ℤ) → (r : Found) × (after : List ℤ) × Finds s before r after
+pub find_answers : (s : List ℕ) → Octets s → (before : List ℤ) → (r : Result ℕ FindRefusal) × (after : List ℤ) × Finds s before r after
 find_answers s octets before = elim (ℕ_discrete (length before) last_number) [
   | yes fit ↦ let a = read_answers s octets before (read s) refl in (a.0, a.1, record { unfit = λ h. absurd (h fit); fit = λ z. a.2 })
-  | no h ↦ (found.Unfit, before, record { unfit = λ z. record { told = refl; kept = refl }; fit = λ z. absurd (h z) })
+  | no h ↦ (Err Unfit, before, record { unfit = λ z. record { told = refl; kept = refl }; fit = λ z. absurd (h z) })
 ]

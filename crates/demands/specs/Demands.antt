@@ -1,6 +1,6 @@
 -- The user's demands (document 00, item 4), said of every outcome that the public calls' contracts allow, for every input. Each clause
 -- stands under the demand's own words; nothing is assumed.
-use Rattle.std.specs.Prelude.{ℕ, ◌+◌, ◌*◌, ◌≤◌, ◌<◌, min, ◌≡◌, List, ◌↔◌, true, false, cond, ℤ, length}
+use Rattle.std.specs.Prelude.{ℕ, ◌+◌, ◌*◌, ◌≤◌, ◌<◌, min, ◌≡◌, List, ◌↔◌, Bool, true, false, cond, ℤ, length, Result}
 use Rattle.condition.specs.Limits.{last_number}
 use Rattle.condition.specs.Answers.{OfReading}
 use Rattle.condition.specs.Meaning.{Assignment, Tree, plain, leaf, holds, negate, ends, given}
@@ -11,9 +11,10 @@ use Rattle.condition.specs.Folding.{fold, live}
 use Rattle.condition.specs.Critical.{end_at, critical, Implies, NonConstraining, NonRelaxing}
 use Rattle.condition.specs.Sweep.{trimmed, needs}
 use Rattle.condition.specs.Counting.{Sweeps}
-use Rattle.travelring.specs.declared.Judged.{Judged}
-use Rattle.travelring.specs.declared.Found.{Found}
+use Rattle.travelring.specs.declared.JudgeRefusal.{JudgeRefusal}
+use Rattle.travelring.specs.declared.FindRefusal.{FindRefusal}
 use Rattle.travelring.specs.declared.Trimmed.{Trimmed}
+use Rattle.travelring.specs.declared.TrimRefusal.{TrimRefusal}
 use Rattle.travelring.specs.declared.Trimming.{Trimming}
 use Rattle.travelring.specs.Judging.{told, judged}
 use Rattle.travelring.specs.Finding.{told_found, Finds}
@@ -26,7 +27,7 @@ pub record TrimCall : Type 0 where
   pub octets : Octets input
   pub ration : ℕ
   pub before : List ℕ
-  pub answer : Trimmed
+  pub answer : Result Trimmed TrimRefusal
   pub after : List ℕ
   pub allowed : Trims input ration before answer after
 
@@ -34,13 +35,13 @@ pub record JudgeCall : Type 0 where
   pub input : List ℕ
   pub flags : ℕ
   pub numbers : List ℤ
-  pub answer : Judged
+  pub answer : Result Bool JudgeRefusal
   pub allowed : told answer ≡ judged input flags numbers
 
 pub record FindCall : Type 0 where
   pub input : List ℕ
   pub before : List ℤ
-  pub answer : Found
+  pub answer : Result ℕ FindRefusal
   pub after : List ℤ
   pub allowed : Finds input before answer after
 
@@ -101,9 +102,9 @@ pub record FindTable (c : FindCall) : Type 0 where
 
 pub record Demand1 : Type 0 where
   -- "Every byte string, ration and buffer length gets an answer": the three contracts can be met
-  pub trim_answers : (s : List ℕ) (ration : ℕ) (before : List ℕ) → (r : Trimmed) × (after : List ℕ) × Trims s ration before r after
-  pub judge_answers : (s : List ℕ) (flags : ℕ) (numbers : List ℤ) → (r : Judged) × (told r ≡ judged s flags numbers)
-  pub find_answers : (s : List ℕ) → Octets s → (before : List ℤ) → (r : Found) × (after : List ℤ) × Finds s before r after
+  pub trim_answers : (s : List ℕ) (ration : ℕ) (before : List ℕ) → (r : Result Trimmed TrimRefusal) × (after : List ℕ) × Trims s ration before r after
+  pub judge_answers : (s : List ℕ) (flags : ℕ) (numbers : List ℤ) → (r : Result Bool JudgeRefusal) × (told r ≡ judged s flags numbers)
+  pub find_answers : (s : List ℕ) → Octets s → (before : List ℤ) → (r : Result ℕ FindRefusal) × (after : List ℤ) × Finds s before r after
   -- reading has a tree, or refuses with 1 to 8
   pub reads : (s : List ℕ) (n p : ℕ) → read s ≡ refusal n p → OfReading n
   -- "from the table in document 01, the first that applies"

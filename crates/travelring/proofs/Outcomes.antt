@@ -1,18 +1,18 @@
 -- What `outcome` is, by what was read and whether the result has room; and that what is written has room.
 use Prim.Native.Nat.{ℕ, ◌+◌, ◌≤◌, ◌<◌}
-use mathlib.Core.Path.{◌≡◌, refl, sym, ap, ◌∙◌}
+use mathlib.Core.Path.{◌≡◌, ap, ◌∙◌}
 use mathlib.Core.List.{List}
-use mathlib.Core.Bool.{Bool, true, false}
+use Rattle.std.specs.Prelude.{Result}
 use native.Mathlib.Omega.{arith}
 use lib.ListN.{length, drop, length-append, length-drop}
 use borrow.Author.Tests.{lt-ltb, le-ltb}
 use Rattle.condition.specs.Answers as answers
 use Rattle.condition.specs.Bytes.{bytes}
 use Rattle.condition.specs.Reading.{Read, read}
-use Rattle.condition.specs.Folding.{live}
 use Rattle.condition.specs.Sweep.{Answer}
 use Rattle.travelring.specs.declared.Trimmed.{Trimmed}
-use Rattle.travelring.specs.Trimming.{refuses, ended, fitted, outcome_read, outcome, told_trimmed, length_told, Trims, ended_by}
+use Rattle.travelring.specs.declared.TrimRefusal.{TrimRefusal}
+use Rattle.travelring.specs.Trimming.{refuses, ended, fitted, outcome_read, outcome, length_told, Trims}
 
 pub by_read : (s : List ℕ) (ration room : ℕ) (x : Read) → read s ≡ x → outcome s ration room ≡ outcome_read x ration room
 unfolding outcome
@@ -24,18 +24,8 @@ too_long room a h = simp (lt-ltb room (length (bytes a.tree)) h)
 pub fits : (room : ℕ) (a : Answer) → length (bytes a.tree) ≤ room → fitted room a ≡ ended a
 fits room a h = simp (le-ltb room (length (bytes a.tree)) h)
 
--- what the sweep's end says, and that it tells the bytes' length
-pub told_ended : (a : Answer) (b : Bool) (bytes : ℕ) → b ≡ a.finished →
-    told_trimmed (ended_by b a.asked (live a.tree) bytes) ≡ (ended a).said
-told_ended a true bytes e = simp (sym e)
-told_ended a false bytes e = simp (sym e)
-
-pub long_ended : (b : Bool) (asked ends bytes : ℕ) → length_told (ended_by b asked ends bytes) ≡ bytes
-long_ended true asked ends bytes = refl
-long_ended false asked ends bytes = refl
-
 -- what is written lies within the output, which is as long after the call as before
-pub length_within : (s : List ℕ) (ration : ℕ) (out : List ℕ) (r : Trimmed) (out' : List ℕ) → Trims s ration out r out' →
+pub length_within : (s : List ℕ) (ration : ℕ) (out : List ℕ) (r : Result Trimmed TrimRefusal) (out' : List ℕ) → Trims s ration out r out' →
     length out' ≡ length out → length_told r ≤ length out'
 length_within s ration out r out' h same =
     let w = (outcome s ration (length out)).written in

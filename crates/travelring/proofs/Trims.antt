@@ -22,44 +22,46 @@ use Rattle.reading.specs.Parts.{Holds}
 use Rattle.writing.specs.Written.{Wrote, Written}
 use Rattle.asking.specs.Asked.{Lives}
 use Rattle.sweeping.specs.Swept.{Says, Sweeps}
+use Rattle.std.specs.Prelude.{Result, Ok, Err}
 use Rattle.travelring.specs.declared.Trimmed.{Trimmed}
-use Rattle.travelring.specs.declared.Trimmed.TheVariants.{Refused, Long}
-use Rattle.travelring.specs.Trimming.{Outcome, fitted, outcome_read, outcome, told_trimmed, length_told, onto, Trims, ended_by}
-use Rattle.travelring.proofs.Outcomes.{too_long, fits, told_ended, long_ended}
+use Rattle.travelring.specs.declared.TrimRefusal.{TrimRefusal}
+use Rattle.travelring.specs.declared.TrimRefusal.TheVariants.{Bytes, Long}
+use Rattle.travelring.specs.Trimming.{Outcome, fitted, outcome_read, outcome, told_trimmed, length_told, onto, Trims}
+use Rattle.travelring.proofs.Outcomes.{too_long, fits}
 
 -- the contract, of an outcome
-record Shows (o : Outcome) (out : List ℕ) (r : Trimmed) (out' : List ℕ) : Type 0 where
+record Shows (o : Outcome) (out : List ℕ) (r : Result Trimmed TrimRefusal) (out' : List ℕ) : Type 0 where
   told : told_trimmed r ≡ o.said
   long : length_told r ≡ length o.written
   lent : out' ≡ onto o.written out
 
 -- what the result's answer, its tree written and its ends counted show
 module _ (a : Answer) (out out' : List ℕ) (needed : ℕ) (wrote : Wrote a.tree out out' needed) where
-  too_short : length out < needed → Shows (fitted (length out) a) out (Long needed) out'
+  too_short : length out < needed → Shows (fitted (length out) a) out (Err (Long needed)) out'
   too_short h =
       let n = wrote.long in
       rw (too_long (length out) a (omega (arith, n, h))) (record { told = simp n; long = refl; lent = wrote.full h })
 
-  done : needed ≤ length out → (finished : Bool) (asked e : ℕ) → finished ≡ a.finished → asked ≡ a.asked → e ≡ live a.tree →
-      Shows (fitted (length out) a) out (ended_by finished asked e needed) out'
-  done h finished asked e f q k =
+  done : needed ≤ length out → (r : Trimmed) → r.finished ≡ a.finished → r.questions ≡ a.asked → r.ends ≡ live a.tree →
+      r.bytes ≡ needed → Shows (fitted (length out) a) out (Ok r) out'
+  done h r f q k b =
       let n = wrote.long in
-      rw (fits (length out) a (omega (arith, n, h)), q, k)
+      rw (fits (length out) a (omega (arith, n, h)))
       (record {
-        told = told_ended a finished needed f;
-        long = long_ended finished a.asked (live a.tree) needed ∙ n;
+        told = simp (f, q, k);
+        long = b ∙ n;
         lent = wrote.here h ∙ simp n;
       })
 
 module _ (s : List ℕ) (ration : ℕ) (out : List ℕ) (ns : List ℕ) (x : Held) (read-it : Holds ns x (read s)) where
-  as_read : (r : Trimmed) (out' : List ℕ) → Shows (outcome_read (read s) ration (length out)) out r out' → Trims s ration out r out'
+  as_read : (r : Result Trimmed TrimRefusal) (out' : List ℕ) → Shows (outcome_read (read s) ration (length out)) out r out' → Trims s ration out r out'
   unfolding outcome
   as_read r out' h = record { told = h.told; long = h.long; lent = h.lent }
 
-  pub trim_refuses : (why : Refusal) → x ≡ held.Refused why → Trims s ration out (Refused why) out
-  trim_refuses why e = as_read (Refused why) out (carried (read s) (subst (λ y. Holds ns y (read s)) e read-it))
+  pub trim_refuses : (why : Refusal) → x ≡ held.Refused why → Trims s ration out (Err (Bytes why)) out
+  trim_refuses why e = as_read (Err (Bytes why)) out (carried (read s) (subst (λ y. Holds ns y (read s)) e read-it))
     where
-      carried : (y : Read) → Holds ns (held.Refused why) y → Shows (outcome_read y ration (length out)) out (Refused why) out
+      carried : (y : Read) → Holds ns (held.Refused why) y → Shows (outcome_read y ration (length out)) out (Err (Bytes why)) out
       carried (tree t) h = absurd h
       carried (refusal n p) h = record { told = simp (h.0, h.1); long = refl; lent = refl }
 
@@ -82,7 +84,7 @@ module _ (s : List ℕ) (ration : ℕ) (out : List ℕ) (ns : List ℕ) (x : Hel
       wrote : (t : Tree) → Reached t → Wrote (trimmed t ration).tree out out' needed
       wrote t h = written.tree (trimmed t ration).tree h.says.laid (sym h.says.sized) (omega (arith, h.small))
 
-      by_tree : (r : Trimmed) → ((t : Tree) → Reached t → Shows (fitted (length out) (trimmed t ration)) out r out') →
+      by_tree : (r : Result Trimmed TrimRefusal) → ((t : Tree) → Reached t → Shows (fitted (length out) (trimmed t ration)) out r out') →
           Trims s ration out r out'
       by_tree r f = as_read r out' (told (read s) refl (subst (λ y. Holds ns y (read s)) e read-it))
         where
@@ -90,13 +92,12 @@ module _ (s : List ℕ) (ration : ℕ) (out : List ℕ) (ns : List ℕ) (x : Hel
           told (tree t) same h = f t (reached t same h)
           told (refusal m p) same h = absurd h
 
-      pub trim_long : length out < needed → Trims s ration out (Long needed) out'
-      trim_long h = by_tree (Long needed) (λ t g. too_short (trimmed t ration) out out' needed (wrote t g) h)
+      pub trim_long : length out < needed → Trims s ration out (Err (Long needed)) out'
+      trim_long h = by_tree (Err (Long needed)) (λ t g. too_short (trimmed t ration) out out' needed (wrote t g) h)
 
       pub trim_ends : needed ≤ length out → (ends : ℕ) → Lives (node_at result) size ends → (r : Trimmed) →
-          r ≡ ended_by finished asked ends needed → Trims s ration out r out'
-      trim_ends h ends lives r same = by_tree r (λ t g.
+          r.finished ≡ finished → r.questions ≡ asked → r.ends ≡ ends → r.bytes ≡ needed → Trims s ration out (Ok r) out'
+      trim_ends h ends lives r f q k b = by_tree (Ok r) (λ t g.
           let a = trimmed t ration in
           let counted = lives.right a.tree g.says.laid (sym g.says.sized) (omega (arith, g.small)) in
-          subst (λ z. Shows (fitted (length out) a) out z out') (sym same)
-          (done a out out' needed (wrote t g) h finished asked ends g.says.over g.says.count counted))
+          done a out out' needed (wrote t g) h r (f ∙ g.says.over) (q ∙ g.says.count) (k ∙ counted) b)

@@ -1,5 +1,5 @@
 -- What trim answers for every input: document 01, "What each call answers".
-use Rattle.std.specs.Prelude.{ℕ, ◌≡◌, List, [], ◌++◌, Bool, true, false, cond, ltb, length, drop}
+use Rattle.std.specs.Prelude.{ℕ, ◌≡◌, List, [], ◌++◌, cond, ltb, length, drop, Result, Ok, Err}
 use Rattle.condition.specs.Answers as answers
 use Rattle.condition.specs.Bytes.{bytes}
 use Rattle.condition.specs.Reading.{Read, tree, refusal, read}
@@ -8,7 +8,8 @@ use Rattle.condition.specs.Sweep.{Answer, trimmed}
 use Rattle.cursor.specs.Said.{answer_of, place_of}
 use Rattle.travelring.specs.declared.Trimming.{Trimming}
 use Rattle.travelring.specs.declared.Trimmed.{Trimmed}
-use Rattle.travelring.specs.declared.Trimmed.TheVariants.{Finished, Stopped, Refused, Long}
+use Rattle.travelring.specs.declared.TrimRefusal.{TrimRefusal}
+use Rattle.travelring.specs.declared.TrimRefusal.TheVariants.{Bytes, Long}
 
 -- "Trim also returns the questions asked and the ends of the result (constants count 0 here)."
 abbrev pub trimming : ℕ → ℕ → ℕ → ℕ → Trimming
@@ -42,30 +43,22 @@ outcome_read (refusal n p) ration room = refuses n p
 unfoldable pub outcome : List ℕ → (ration room : ℕ) → Outcome
 outcome s ration room = outcome_read (read s) ration room
 
--- what the enum's cases say
-abbrev pub told_trimmed : Trimmed → Trimming
-told_trimmed (Finished asked ends long) = trimming answers.finished 0 asked ends
-told_trimmed (Stopped asked ends long) = trimming answers.stopped 0 asked ends
-told_trimmed (Refused why) = trimming (answer_of why) (place_of why) 0 0
-told_trimmed (Long needed) = trimming answers.long needed 0 0
+-- what the cases of trim's result say
+abbrev pub told_trimmed : Result Trimmed TrimRefusal → Trimming
+told_trimmed (Ok t) = trimming (cond t.finished answers.finished answers.stopped) 0 t.questions t.ends
+told_trimmed (Err (Bytes why)) = trimming (answer_of why) (place_of why) 0 0
+told_trimmed (Err (Long needed)) = trimming answers.long needed 0 0
 
 -- and how many bytes they say were written, which 01 does not name
-abbrev pub length_told : Trimmed → ℕ
-length_told (Finished asked ends long) = long
-length_told (Stopped asked ends long) = long
-length_told (Refused why) = 0
-length_told (Long needed) = 0
+abbrev pub length_told : Result Trimmed TrimRefusal → ℕ
+length_told (Ok t) = t.bytes
+length_told (Err why) = 0
 
 -- the contract: the numbers, how many bytes are written, and the output, where "bytes beyond it stay"
 abbrev pub onto : List ℕ → List ℕ → List ℕ
 onto w out = w ++ drop (length w) out
 
-pub record Trims (s : List ℕ) (ration : ℕ) (out : List ℕ) (r : Trimmed) (out' : List ℕ) : Type 0 where
+pub record Trims (s : List ℕ) (ration : ℕ) (out : List ℕ) (r : Result Trimmed TrimRefusal) (out' : List ℕ) : Type 0 where
   pub told : told_trimmed r ≡ (outcome s ration (length out)).said
   pub long : length_told r ≡ length (outcome s ration (length out)).written
   pub lent : out' ≡ onto (outcome s ration (length out)).written out
-
--- the sweep's end
-abbrev pub ended_by : Bool → ℕ → ℕ → ℕ → Trimmed
-ended_by true asked ends long = Finished asked ends long
-ended_by false asked ends long = Stopped asked ends long
