@@ -14,10 +14,10 @@ use Rattle.condition.specs.Sweep.{Answer, trimmed}
 use Rattle.condition.proofs.Reading.{octets, read_written}
 use Rattle.condition.proofs.Trimmed.{trimmed_within}
 use Rattle.cursor.specs.declared.Refusal.{Refusal}
-use Rattle.nodes.specs.Words.{node_at}
+use Rattle.nodes.specs.declared.Node.{Node}
+use Rattle.nodes.specs.Memory.{node_at}
+use Rattle.nodes.specs.Laid.{nodes}
 use Rattle.nodes.proofs.Laws.{nodes_few}
-use Rattle.reading.specs.declared.Answer.{Answer as Held}
-use Rattle.reading.specs.declared.Answer.TheVariants as held
 use Rattle.reading.specs.Parts.{Holds}
 use Rattle.writing.specs.Written.{Wrote, Written}
 use Rattle.asking.specs.Asked.{Lives}
@@ -53,51 +53,51 @@ module _ (a : Answer) (out out' : List ℕ) (needed : ℕ) (wrote : Wrote a.tree
         lent = wrote.here h ∙ simp n;
       })
 
-module _ (s : List ℕ) (ration : ℕ) (out : List ℕ) (ns : List ℕ) (x : Held) (read-it : Holds ns x (read s)) where
-  as_read : (r : Result Trimmed TrimRefusal) (out' : List ℕ) → Shows (outcome_read (read s) ration (length out)) out r out' → Trims s ration out r out'
+module _ (s : List ℕ) (ration : ℕ) (out : List ℕ) (x : Result (List Node) Refusal) (held : Holds x (read s)) where
+  as_read : (r : Result Trimmed TrimRefusal) (out' : List ℕ) → Shows (outcome_read (read s) ration (length out)) out r out' →
+      Trims s ration out r out'
   unfolding outcome
   as_read r out' h = record { told = h.told; long = h.long; lent = h.lent }
 
-  pub trim_refuses : (why : Refusal) → x ≡ held.Refused why → Trims s ration out (Err (Bytes why)) out
-  trim_refuses why e = as_read (Err (Bytes why)) out (carried (read s) (subst (λ y. Holds ns y (read s)) e read-it))
+  pub trim_refuses : (why : Refusal) → x ≡ Err why → Trims s ration out (Err (Bytes why)) out
+  trim_refuses why e = as_read (Err (Bytes why)) out (carried (read s) (subst (λ z. Holds z (read s)) e held))
     where
-      carried : (y : Read) → Holds ns (held.Refused why) y → Shows (outcome_read y ration (length out)) out (Err (Bytes why)) out
+      carried : (y : Read) → Holds (Err why) y → Shows (outcome_read y ration (length out)) out (Err (Bytes why)) out
       carried (tree t) h = absurd h
       carried (refusal n p) h = record { told = simp (h.0, h.1); long = refl; lent = refl }
 
-  module _ (octet : (i : ℕ) → get_or s i 0 < 256) (n : ℕ) (e : x ≡ held.Tree n) (result : List ℕ) (size asked : ℕ)
-      (finished : Bool) (swept : Sweeps (node_at ns) n ration result size asked finished) where
+  module _ (octet : (i : ℕ) → get_or s i 0 < 256) (ns : List Node) (e : x ≡ Ok ns) (result : List Node) (asked : ℕ)
+      (finished : Bool) (swept : Sweeps (node_at ns) ration result asked finished) where
     -- the tree read, and what is said of its result
     record Reached (t : Tree) : Type 0 where
-      says : Says (trimmed t ration) result size asked finished
-      small : size ≤ tree_room
+      says : Says (trimmed t ration) result asked finished
+      small : nodes (trimmed t ration).tree ≤ tree_room
 
-    reached : (t : Tree) → read s ≡ tree t → Holds ns (held.Tree n) (tree t) → Reached t
+    reached : (t : Tree) → read s ≡ tree t → Holds (Ok ns) (tree t) → Reached t
     reached t same h =
         let within = (read_written s t (octets s octet) same).1 in
-        let says = swept.right t h.0 (sym h.1) h.2 within in
         let inside = trimmed_within t ration within in
         let few = nodes_few (trimmed t ration).tree inside.formed in
-        record { says = says; small = omega (arith, few, inside.few, says.sized) }
+        record { says = swept.right t h.0 h.1 within; small = omega (arith, few, inside.few) }
 
-    module _ (out' : List ℕ) (needed : ℕ) (written : Written (node_at result) size out out' needed) where
+    module _ (out' : List ℕ) (needed : ℕ) (written : Written (node_at result) out out' needed) where
       wrote : (t : Tree) → Reached t → Wrote (trimmed t ration).tree out out' needed
-      wrote t h = written.tree (trimmed t ration).tree h.says.laid (sym h.says.sized) (omega (arith, h.small))
+      wrote t h = written.tree (trimmed t ration).tree h.says.laid h.small
 
-      by_tree : (r : Result Trimmed TrimRefusal) → ((t : Tree) → Reached t → Shows (fitted (length out) (trimmed t ration)) out r out') →
-          Trims s ration out r out'
-      by_tree r f = as_read r out' (told (read s) refl (subst (λ y. Holds ns y (read s)) e read-it))
+      by_tree : (r : Result Trimmed TrimRefusal) →
+          ((t : Tree) → Reached t → Shows (fitted (length out) (trimmed t ration)) out r out') → Trims s ration out r out'
+      by_tree r f = as_read r out' (told (read s) refl (subst (λ z. Holds z (read s)) e held))
         where
-          told : (y : Read) → read s ≡ y → Holds ns (held.Tree n) y → Shows (outcome_read y ration (length out)) out r out'
+          told : (y : Read) → read s ≡ y → Holds (Ok ns) y → Shows (outcome_read y ration (length out)) out r out'
           told (tree t) same h = f t (reached t same h)
           told (refusal m p) same h = absurd h
 
       pub trim_long : length out < needed → Trims s ration out (Err (Long needed)) out'
       trim_long h = by_tree (Err (Long needed)) (λ t g. too_short (trimmed t ration) out out' needed (wrote t g) h)
 
-      pub trim_ends : needed ≤ length out → (ends : ℕ) → Lives (node_at result) size ends → (r : Trimmed) →
+      pub trim_ends : needed ≤ length out → (ends : ℕ) → Lives (node_at result) ends → (r : Trimmed) →
           r.finished ≡ finished → r.questions ≡ asked → r.ends ≡ ends → r.bytes ≡ needed → Trims s ration out (Ok r) out'
       trim_ends h ends lives r f q k b = by_tree (Ok r) (λ t g.
           let a = trimmed t ration in
-          let counted = lives.right a.tree g.says.laid (sym g.says.sized) (omega (arith, g.small)) in
+          let counted = lives.right a.tree g.says.laid (omega (arith, g.small)) in
           done a out out' needed (wrote t g) h r (f ∙ g.says.over) (q ∙ g.says.count) (k ∙ counted) b)
