@@ -14,9 +14,13 @@ use Rattle.condition.specs.Sweep.{Answer, trimmed}
 use Rattle.condition.proofs.Reading.{octets, read_written}
 use Rattle.condition.proofs.Trimmed.{trimmed_within}
 use Rattle.cursor.specs.declared.Refusal.{Refusal}
+<<<<<<< HEAD
 use Rattle.nodes.specs.declared.Node.{Node}
 use Rattle.nodes.specs.Memory.{node_at}
 use Rattle.nodes.specs.Laid.{nodes}
+=======
+use Rattle.nodes.specs.Memory.{node_at}
+>>>>>>> origin/pass-nodes
 use Rattle.nodes.proofs.Laws.{nodes_few}
 use Rattle.reading.specs.Parts.{Holds}
 use Rattle.writing.specs.Written.{Wrote, Written}
