@@ -9,6 +9,7 @@ use lib.ListN.{length, set}
 use Rattle.std.specs.Prelude.{Result, Ok, Err, IfOk}
 use Rattle.std.proofs.lemmas.Result.{IfOk-weaker}
 use Rattle.condition.proofs.Steps.{Yields}
+use Rattle.condition.specs.Answers as answers
 use Rattle.condition.specs.Limits.{most_ends, last_boolean, last_number, largest_bound, last_tag}
 use Rattle.condition.specs.Meaning.{End, Tree, plain, leaf, join, Forest, none, more, count, ends, ends_all}
 use Rattle.condition.specs.Reading as reading
@@ -18,7 +19,7 @@ use Rattle.cursor.specs.declared.Cursor.{Cursor}
 use Rattle.cursor.specs.declared.Refusal.{Refusal}
 use Rattle.cursor.specs.declared.Refusal.TheVariants.{Crowd, After}
 use Rattle.cursor.specs.Said.{answer_of, place_of, from, said}
-use Rattle.cursor.proofs.Steps.{Taken, refusal_read, first_byte, no_bytes}
+use Rattle.cursor.proofs.Steps.{Taken, refusal_read, first_byte, no_bytes, up_to_taken, count_taken}
 use Rattle.nodes.specs.declared.Node.{Node}
 use Rattle.nodes.specs.declared.Node.TheVariants as node
 use Rattle.nodes.specs.Memory.{node_at}
@@ -98,22 +99,30 @@ module _ (ns₀ ns : List Node) (s : List ℕ) (g at i : ℕ) where
       goes = λ others few. one_went ns₀ ns i k room put (length s) at others c m.0 m.1 few;
     }
 
-    pub end_flag : (p : ℕ) (c1 : Cursor) → g < 6 → Taken (λ n. n ≤ last_boolean) s at (read_name last_boolean (from s at) at) p c1 →
-        ns ≡ set ns₀ i (node.Flag (eqb g 4) p) → EndRight ns₀ ns s g at i (Ok (part (i + 1) c1 1))
-    end_flag p c1 h name put =
+    pub end_flag : at ≤ length s → (p : ℕ) (c1 : Cursor) → g < 6 →
+        got p (from s c1.at) c1.at ≡ read_name last_boolean (from s at) at → ns ≡ set ns₀ i (node.Flag (eqb g 4) p) →
+        EndRight ns₀ ns s g at i (Ok (part (i + 1) c1 1))
+    end_flag inside p c1 h named put =
+        let name = up_to_taken s at inside p c1 last_boolean answers.name named in
         end_put c1 (reading.flag_end g p) (node.Flag (eqb g 4) p) (eq.flag_read g _ _ h p _ _ name.is) (name.on, name.inside) refl put
 
-    pub end_bound : (x y w v : ℕ) (c1 c2 c3 : Cursor) → 6 ≤ g →
-        Taken (λ n. n ≤ last_number) s at (read_name last_number (from s at) at) x c1 →
-        Taken (λ n. n ≤ last_number) s c1.at (read_name last_number (from s c1.at) c1.at) y c2 →
-        Taken (λ n. n ≤ 2 * largest_bound) s c2.at (read_bound (from s c2.at) c2.at) w c3 → shifted v ≡ bound_of w →
+    pub end_bound : at ≤ length s → (x y w v : ℕ) (c1 c2 c3 : Cursor) → 6 ≤ g →
+        got x (from s c1.at) c1.at ≡ read_name last_number (from s at) at →
+        got y (from s c2.at) c2.at ≡ read_name last_number (from s c1.at) c1.at →
+        got w (from s c3.at) c3.at ≡ read_bound (from s c2.at) c2.at → shifted v ≡ bound_of w →
         ns ≡ set ns₀ i (node.Bound (eqb g 6) x y v) → EndRight ns₀ ns s g at i (Ok (part (i + 1) c3 1))
-    end_bound x y w v c1 c2 c3 h first second bound e put =
+    end_bound inside x y w v c1 c2 c3 h named named' bounded e put =
+        let first = up_to_taken s at inside x c1 last_number answers.name named in
+        let second = up_to_taken s c1.at first.inside y c2 last_number answers.name named' in
+        let bound = up_to_taken s c2.at second.inside w c3 (2 * largest_bound) answers.bound bounded in
         end_put c3 (reading.bound_end g x y (bound_of w)) (node.Bound (eqb g 6) x y v)
         (eq.bound_read g _ _ h x _ _ first.is y _ _ second.is w _ _ bound.is)
         (omega (arith, first.on, second.on, bound.on), bound.inside)
         (ap (reading.bound_end g x y) (sym e))
         put
+
+-- those by which the check finds most ways out of an end itself
+pub ruleset stops = (up_to_taken, end_stops, eq.name_stop, eq.x_stop, eq.y_stop, eq.bound_stop)
 
 -- ---- node
 
@@ -135,7 +144,10 @@ module _ (ns₀ ns : List Node) (s : List ℕ) (at others i : ℕ) where
       NodeRight ns₀ ns s at others i (Err why)
   node_stops step why x q says f = stops_at why (λ kids. f kids (refusal_read s step x why says q))
 
-  module _ (g : ℕ) (c1 : Cursor) (tag : Taken (λ n. n ≤ last_tag) s at (read_tag (from s at) at) g c1) where
+  module _ (inside : at ≤ length s) (g : ℕ) (c1 : Cursor) (tagged : got g (from s c1.at) c1.at ≡ read_tag (from s at) at) where
+    tag : Taken (λ n. n ≤ last_tag) s at (read_tag (from s at) at) g c1
+    tag = up_to_taken s at inside g c1 last_tag answers.tag tagged
+
     pub node_plain : g < 2 → others + 1 ≤ most_ends → i < length ns₀ → ns ≡ set ns₀ i (node.Plain (eqb g 1)) →
         NodeRight ns₀ ns s at others i (Ok (part (i + 1) c1 1))
     unfolding Laid nodes ends
@@ -154,8 +166,10 @@ module _ (ns₀ ns : List Node) (s : List ℕ) (at others i : ℕ) where
       goes = further 1 ns₀ ns (length s) at c1.at others i r (omega (arith, tag.on)) (e.goes others few);
     }
 
-    module _ (h2 : 2 ≤ g) (h4 : g < 4) (k : ℕ) (c2 : Cursor)
-        (kids : Taken (λ n. 2 ≤ n) s c1.at (read_count (from s c1.at) c1.at) k c2) where
+    module _ (h2 : 2 ≤ g) (h4 : g < 4) (k : ℕ) (c2 : Cursor) (counted : got k (from s c2.at) c2.at ≡ read_count (from s c1.at) c1.at) where
+      kids : Taken (λ n. 2 ≤ n) s c1.at (read_count (from s c1.at) c1.at) k c2
+      kids = count_taken s c1.at tag.inside k c2 counted
+
       pub node_crowd : most_ends - others < k → others + 1 ≤ most_ends → NodeRight ns₀ ns s at others i (Err (Crowd at))
       node_crowd h few = stops_at (Crowd at) (λ ks. eq.crowd_stop ks _ at others g _ _ tag.is h2 h4 k _ _ kids.is (omega arith))
 

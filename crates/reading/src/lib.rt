@@ -21,6 +21,7 @@ struct Part {
 }
 
 // c + LARGEST_BOUND, for c as it is written.
+#[tactic(auto, using(crate::proofs::Bounds::even, crate::proofs::Bounds::odd))]
 fn shift(w: Numeral) -> u32
     requires { w ≤ 2 * largest_bound }
     ensures { shifted result ≡ bound_of w }
@@ -32,6 +33,7 @@ fn shift(w: Numeral) -> u32
 }
 
 // An end of a boolean, its tag g read, put at node i.
+#[tactic(auto, using(crate::proofs::Ways::stops))]
 fn flag_end(s: &[u8], c: Cursor, g: Numeral, ns: &mut [Node], i: usize) -> Result<Part, Refusal>
     requires { (c.at ≤ length s.now) × (i < length ns.old) × (g < 6) }
     ensures { EndRight ns.old ns.new s.now g c.at i result }
@@ -49,6 +51,7 @@ fn flag_end(s: &[u8], c: Cursor, g: Numeral, ns: &mut [Node], i: usize) -> Resul
 }
 
 // An end of two numbers, its tag g read, put at node i.
+#[tactic(auto, using(crate::proofs::Ways::stops))]
 fn bound_end(s: &[u8], c: Cursor, g: Numeral, ns: &mut [Node], i: usize) -> Result<Part, Refusal>
     requires { (c.at ≤ length s.now) × (i < length ns.old) × (6 ≤ g) }
     ensures { EndRight ns.old ns.new s.now g c.at i result }
@@ -75,6 +78,7 @@ fn bound_end(s: &[u8], c: Cursor, g: Numeral, ns: &mut [Node], i: usize) -> Resu
 
 // One node and all below it, from node i on. others: the ends read before it and those owed beside it.
 #[cycle(children_node)]
+#[tactic(auto, using(cursor::proofs::Steps::up_to_taken, cursor::proofs::Steps::count_taken))]
 fn node(s: &[u8], c: Cursor, others: u32, ns: &mut [Node], i: usize) -> Result<Part, Refusal>
     requires { May 1 s.now c.at others i (length ns.old) }
     ensures { NodeRight ns.old ns.new s.now c.at others i result }

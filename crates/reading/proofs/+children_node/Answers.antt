@@ -1,5 +1,6 @@
 -- `reading::node` and `reading::children` meet their contracts: each way out is one of Ways.antt. The bytes left fall: a node is read
 -- past its tag before its children, and each child is read before its younger siblings.
+use mathlib.Core.Path.{sym}
 use native.Mathlib.Omega.{arith}
 use Rattle.std.proofs.lemmas.Result.{err_from_is_err_and}
 use Rattle.cursor.proofs.Steps.{up_to_taken, count_taken}
@@ -29,59 +30,33 @@ node-returns-in_default t c =
 
 pub node-returns-in-0 : goal.node-returns-in-0
 node-returns-in-0 t c =
-    let g = up_to_taken _ _ c.requires.inside _ _ _ _ c.in-Ok.ensures in
-    ways.node_plain _ _ _ _ _ _ _ _ g (omega arith) c.requires.few (omega (arith, c.requires)) c.put_node.ensures
+    ways.node_plain _ _ _ _ _ _ c.requires.inside _ _ c.in-Ok.ensures (omega arith) c.requires.few (omega (arith, c.requires)) c.put_node.ensures
 
 pub node-returns-in_default-count : goal.node-returns-in_default-count
 node-returns-in_default-count t c =
-    let g = up_to_taken _ _ c.requires.inside _ _ _ _ c.in-Ok.ensures in
     ways.node_stops _ _ _ _ _ _ _ _ _ c.unwrap_err-in_default-count.ensures c.count-count.ensures
-    (λ kids. eq.count_stop kids _ _ _ _ _ _ g.is (omega arith) (omega arith) _ _)
+    (λ kids. eq.count_stop kids _ _ _ _ _ _ (sym c.in-Ok.ensures) (omega arith) (omega arith) _ _)
 
 pub node-returns-then-others-k : goal.node-returns-then-others-k
 node-returns-then-others-k t c =
-    let g = up_to_taken _ _ c.requires.inside _ _ _ _ c.in-Ok.ensures in
-    let k = count_taken _ _ g.inside _ _ c.in-Ok-count.ensures in
-    ways.node_crowd _ _ _ _ _ _ _ _ g (omega arith) (omega arith) _ _ k c.if-others-k.true c.requires.few
-
-pub node-children-requires : goal.node-children-requires
-node-children-requires t c =
-    let g = up_to_taken _ _ c.requires.inside _ _ _ _ c.in-Ok.ensures in
-    let k = count_taken _ _ g.inside _ _ c.in-Ok-count.ensures in
-    omega (arith, g.on, k.on, k.inside, k.ranged, c.decreases, c.requires)
+    ways.node_crowd _ _ _ _ _ _ c.requires.inside _ _ c.in-Ok.ensures (omega arith) (omega arith) _ _ c.in-Ok-count.ensures c.if-others-k.true c.requires.few
 
 pub node-returns-in_err-kids-in-2 : goal.node-returns-in_err-kids-in-2
 node-returns-in_err-kids-in-2 t c =
-    let g = up_to_taken _ _ c.requires.inside _ _ _ _ c.in-Ok.ensures in
-    let k = count_taken _ _ g.inside _ _ c.in-Ok-count.ensures in
     let p = err_from_is_err_and c.from_residual.result c.from_residual.ensures.1 in
-    rw (p.1, p.2) (ways.node_kids_stop _ _ _ _ _ _ _ _ g (omega arith) (omega arith) _ _ k
+    rw (p.1, p.2) (ways.node_kids_stop _ _ _ _ _ _ c.requires.inside _ _ c.in-Ok.ensures (omega arith) (omega arith) _ _ c.in-Ok-count.ensures
     (omega (arith, c.if-others-k.false, c.requires)) _ _ c.in_err-kids-in-2.ensures)
 
-pub node-flag_end-requires : goal.node-flag_end-requires
-node-flag_end-requires t c =
-    let g = up_to_taken _ _ c.requires.inside _ _ _ _ c.in-Ok.ensures in
-    (g.inside, omega (arith, c.requires), omega arith)
-
 pub node-returns-in-4 : goal.node-returns-in-4
-node-returns-in-4 t c = 
-    let g = up_to_taken _ _ c.requires.inside _ _ _ _ c.in-Ok.ensures in
-    ways.node_end _ _ _ _ _ _ _ _ g (omega arith) c.requires.few _ c.flag_end.ensures
-
-pub node-bound_end-requires : goal.node-bound_end-requires
-node-bound_end-requires t c =
-    let g = up_to_taken _ _ c.requires.inside _ _ _ _ c.in-Ok.ensures in
-    (g.inside, omega (arith, c.requires), omega arith)
+node-returns-in-4 t c =
+    ways.node_end _ _ _ _ _ _ c.requires.inside _ _ c.in-Ok.ensures (omega arith) c.requires.few _ c.flag_end.ensures
 
 pub node-returns-in_default-g : goal.node-returns-in_default-g
 node-returns-in_default-g t c =
-    let g = up_to_taken _ _ c.requires.inside _ _ _ _ c.in-Ok.ensures in
-    ways.node_end _ _ _ _ _ _ _ _ g (omega arith) c.requires.few _ c.bound_end.ensures
+    ways.node_end _ _ _ _ _ _ c.requires.inside _ _ c.in-Ok.ensures (omega arith) c.requires.few _ c.bound_end.ensures
 
 pub node-returns-in_ok-kids-in-2 : goal.node-returns-in_ok-kids-in-2
 node-returns-in_ok-kids-in-2 t c =
-    let g = up_to_taken _ _ c.requires.inside _ _ _ _ c.in-Ok.ensures in
-    let k = count_taken _ _ g.inside _ _ c.in-Ok-count.ensures in
-    ways.node_join _ _ _ _ _ _ _ _ g (omega arith) (omega arith) _ _ k
+    ways.node_join _ _ _ _ _ _ c.requires.inside _ _ c.in-Ok.ensures (omega arith) (omega arith) _ _ c.in-Ok-count.ensures
     (omega (arith, c.if-others-k.false, c.requires)) _ _ c.in_ok-kids-in-2.ensures
     (omega (arith, c.requires, c.children.auto)) c.put_node-in-2.ensures c.requires.few
