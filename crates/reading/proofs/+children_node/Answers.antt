@@ -3,7 +3,6 @@
 use mathlib.Core.Path.{sym}
 use native.Mathlib.Omega.{arith}
 use Rattle.std.proofs.lemmas.Result.{err_from_is_err_and}
-use Rattle.cursor.proofs.Steps.{up_to_taken, count_taken}
 use Rattle.reading.proofs.Equations as eq
 use Rattle.reading.proofs.Ways as ways
 use Rattle.reading.proofs.+children_node.Goals as goal
