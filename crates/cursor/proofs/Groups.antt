@@ -1,7 +1,7 @@
 -- What each way out of `Cursor::group` shows: one equation of `number_from` a way, with the bytes from `at` on as a first byte and
 -- the rest.
 use Prim.Native.Nat.{ℕ, ◌+◌, ◌-◌, ◌*◌, ◌^◌, ◌≤◌, ◌<◌}
-use mathlib.Core.Path.{◌≡◌, refl, ap, ◌∙◌}
+use mathlib.Core.Path.{◌≡◌, refl, sym, ap, ◌∙◌}
 use mathlib.Core.List.{List}
 use mathlib.Core.Bool.{true, false, ◌&&◌, and-false}
 use native.Mathlib.Nat.{pow-succ', pow-le-pow_right}
@@ -39,7 +39,7 @@ module _ (first : ℕ) (s : List ℕ) (at left : ℕ) where
           positive (λ g. got b (from s (at + 1)) (at + 1) ≡ number_from g first (from s at) at) left some
           (rw (first_byte s at b here is) (simp (lt-ltb _ _ h, q)))
 
-      pub more_groups : group_size ≤ b →
+      more_groups : group_size ≤ b →
           number_from left first (from s at) at ≡ then (number_from (left - 1) first (from s (at + 1)) (at + 1))
           (λ n l' at'. got (b - group_size + group_size * n) l' at')
       unfolding number_from
@@ -49,6 +49,15 @@ module _ (first : ℕ) (s : List ℕ) (at left : ℕ) where
           (λ n l' at'. got (b - group_size + group_size * n) l' at'))
           left some
           (rw (first_byte s at b here is) (simp (le-ltb _ _ h, less (left - 1))))
+
+      module _ (h : group_size ≤ b) where
+        pub more_read : (n : ℕ) (l : List ℕ) (at' : ℕ) → got n l at' ≡ number_from (left - 1) first (from s (at + 1)) (at + 1) →
+            got (b - group_size + group_size * n) l at' ≡ number_from left first (from s at) at
+        more_read n l at' e = ap (λ x. then x (λ n l at'. got (b - group_size + group_size * n) l at')) e ∙ sym (more_groups h)
+
+        pub more_refused : (a p : ℕ) → refused a p ≡ number_from (left - 1) first (from s (at + 1)) (at + 1) →
+            refused a p ≡ number_from left first (from s at) at
+        more_refused a p e = ap (λ x. then x (λ n l at'. got (b - group_size + group_size * n) l at')) e ∙ sym (more_groups h)
 
 -- a number of one byte: none can be padded
 pub one_byte : (s : List ℕ) (at b : ℕ) → at < length s → b ≡ get_or s at 0 → b < group_size →
@@ -72,3 +81,6 @@ small_more left b n some h q = positive (λ g. n < group_size ^ (g - 1) → b - 
 
 pub small_fits : (g n : ℕ) → g ≤ groups → n < group_size ^ g → n < group_size ^ groups
 small_fits g n h q = omega (arith, pow-le-pow_right {n = group_size} (omega arith) {i = g} {j = groups} h)
+
+-- those by which the check finds most ways out itself
+pub ruleset ways = (no_group, no_byte, padded, more_read, more_refused, small_more)

@@ -1,19 +1,17 @@
--- A step and what is read after it: a refusal ends the reading, a value goes on at the next cursor.
-use Prim.Native.Nat.{ℕ, ◌+◌, ◌≤◌, ◌<◌, ◌^◌}
+-- A step of the cursor: the bytes it reads, and what it says of them.
+use Prim.Native.Nat.{ℕ, ◌+◌, ◌≤◌, ◌<◌}
 use mathlib.Core.Path.{◌≡◌, sym, ap, ◌∙◌}
 use mathlib.Core.List.{List, [], ◌∷◌}
 use native.Mathlib.Omega.{arith}
 use native.Mathlib.Numerals.{add-one}
 use lib.ListN.{length, get_or, length-drop, drop_of_length-le}
 use lib.Seq.{drop-cons}
-use Rattle.condition.specs.Limits.{group_size}
+use Rattle.std.specs.Prelude.{Result, Err}
 use Rattle.condition.proofs.Steps.{Moved, Stepped, up_to_steps, count_steps}
-use Rattle.condition.specs.Reading.{Reading, got, refused, then, up_to, read_count}
+use Rattle.condition.specs.Reading.{Reading, got, refused, up_to, read_count}
 use Rattle.cursor.specs.declared.Cursor.{Cursor}
 use Rattle.cursor.specs.declared.Refusal.{Refusal}
-use Rattle.cursor.specs.declared.Step.{Step}
-use Rattle.cursor.specs.declared.Step.TheVariants.{Value, Refused}
-use Rattle.cursor.specs.Said.{answer_of, place_of, from, said, Small}
+use Rattle.cursor.specs.Said.{answer_of, place_of, from, said}
 
 -- the bytes from `at` on: the byte there and the rest, or none
 pub first_byte : (s : List ℕ) (at b : ℕ) → at < length s → b ≡ get_or s at 0 → from s at ≡ b ∷ from s (at + 1)
@@ -24,26 +22,10 @@ pub no_bytes : (s : List ℕ) (at : ℕ) → length s ≤ at → from s at ≡ [
 unfolding from
 no_bytes s at h = drop_of_length-le s h
 
-module _ (s : List ℕ) (step : Step) (x : Reading ℕ) (is : said s step ≡ x) where
-  pub refusal_read : (why : Refusal) → step ≡ Refused why → x ≡ refused (answer_of why) (place_of why)
-  refusal_read why e = sym is ∙ ap (said s) e
-
-  pub value_read : (n : ℕ) (c : Cursor) → step ≡ Value n c → x ≡ got n (from s c.at) c.at
-  value_read n c e = sym is ∙ ap (said s) e
-
-  pub stops : {A : Type 0} (next : ℕ → List ℕ → ℕ → Reading A) (why : Refusal) → step ≡ Refused why →
-      then x next ≡ refused (answer_of why) (place_of why)
-  stops next why e = ap (λ y. then y next) (refusal_read why e)
-
-  pub goes_on : {A : Type 0} (next : ℕ → List ℕ → ℕ → Reading A) (n : ℕ) (c : Cursor) → step ≡ Value n c →
-      then x next ≡ next n (from s c.at) c.at
-  goes_on next n c e = ap (λ y. then y next) (value_read n c e)
-
-pub refusal_small : (g : ℕ) (step : Step) (why : Refusal) → step ≡ Refused why → Small g step
-refusal_small g step why e = rw e tt
-
-pub value_small : (g : ℕ) (step : Step) (n : ℕ) (c : Cursor) → step ≡ Value n c → Small g step → n < group_size ^ g
-value_small g step n c e h = rw e at h
+-- a step that yields no value: what was read there is its refusal
+pub refusal_read : (s : List ℕ) (step : Result (ℕ × Cursor) Refusal) (x : Reading ℕ) (why : Refusal) → said s step ≡ x → step ≡ Err why →
+    x ≡ refused (answer_of why) (place_of why)
+refusal_read s step x why is e = sym is ∙ ap (said s) e
 
 -- a value n read from `at` on, inside the bytes and in its range
 pub record Taken (P : ℕ → Type 0) (s : List ℕ) (at : ℕ) (x : Reading ℕ) (n : ℕ) (c : Cursor) : Type 0 where
@@ -56,17 +38,16 @@ inside_moved : (s : List ℕ) (at at' : ℕ) → at ≤ length s → Moved (from
 unfolding from
 inside_moved s at at' h m = omega (arith, m.on, simp length-drop at m.kept)
 
-module _ (s : List ℕ) (at : ℕ) (step : Step) (inside : at ≤ length s) (n : ℕ) (c : Cursor) (value : step ≡ Value n c) where
-  taken : (P : ℕ → Type 0) (x : Reading ℕ) → said s step ≡ x →
+module _ (s : List ℕ) (at : ℕ) (inside : at ≤ length s) (n : ℕ) (c : Cursor) where
+  taken : (P : ℕ → Type 0) (x : Reading ℕ) → got n (from s c.at) c.at ≡ x →
       (x ≡ got n (from s c.at) c.at → Stepped P (from s at) at n (from s c.at) c.at) → Taken P s at x n c
   taken P x e steps =
-      let q = value_read s step x e n c value in
-      let h = steps q in
-      record { is = q; on = h.moved.on; inside = inside_moved s at c.at inside h.moved; ranged = h.ranged }
+      let h = steps (sym e) in
+      record { is = sym e; on = h.moved.on; inside = inside_moved s at c.at inside h.moved; ranged = h.ranged }
 
-  pub up_to_taken : (most answer : ℕ) → said s step ≡ up_to most answer (from s at) at →
+  pub up_to_taken : (most answer : ℕ) → got n (from s c.at) c.at ≡ up_to most answer (from s at) at →
       Taken (λ n. n ≤ most) s at (up_to most answer (from s at) at) n c
   up_to_taken most answer e = taken (λ n. n ≤ most) _ e (up_to_steps most answer (from s at) at n (from s c.at) c.at)
 
-  pub count_taken : said s step ≡ read_count (from s at) at → Taken (λ n. 2 ≤ n) s at (read_count (from s at) at) n c
+  pub count_taken : got n (from s c.at) c.at ≡ read_count (from s at) at → Taken (λ n. 2 ≤ n) s at (read_count (from s at) at) n c
   count_taken e = taken (λ n. 2 ≤ n) _ e (count_steps (from s at) at n (from s c.at) c.at)

@@ -1,12 +1,11 @@
 -- Document 01's number and place for each refusal of a reading, and what a step of the cursor says.
-use Rattle.std.specs.Prelude.{ℕ, ◌<◌, ◌^◌, List, drop}
+use Rattle.std.specs.Prelude.{ℕ, ◌<◌, ◌^◌, List, drop, Result, Ok, Err}
 use Rattle.condition.specs.Answers as answers
 use Rattle.condition.specs.Limits.{group_size}
 use Rattle.condition.specs.Reading.{Reading, got, refused}
 use Rattle.cursor.specs.declared.Refusal.{Refusal}
 use Rattle.cursor.specs.declared.Refusal.TheVariants.{Ended, Form, Tag, Count, Name, Bound, Crowd, After}
-use Rattle.cursor.specs.declared.Step.{Step}
-use Rattle.cursor.specs.declared.Step.TheVariants.{Value, Refused}
+use Rattle.cursor.specs.declared.Cursor.{Cursor}
 
 -- which row of the table each is
 abbrev pub answer_of : Refusal → ℕ
@@ -33,12 +32,12 @@ place_of (After at) = at
 unfoldable pub from : List ℕ → ℕ → List ℕ
 from s at = drop at s
 
--- of the bytes s: a value and the bytes from the next cursor on, or the refusal
-abbrev pub said : List ℕ → Step → Reading ℕ
-said s (Value n c) = got n (from s c.at) c.at
-said s (Refused why) = refused (answer_of why) (place_of why)
+-- of a step, of the bytes s: a value and the bytes from the next cursor on, or the refusal
+abbrev pub said : List ℕ → Result (ℕ × Cursor) Refusal → Reading ℕ
+said s (Ok (n, c)) = got n (from s c.at) c.at
+said s (Err why) = refused (answer_of why) (place_of why)
 
 -- a value of at most g groups is below group_size ^ g
-abbrev pub Small : ℕ → Step → Type 0
-Small g (Value n c) = n < group_size ^ g
-Small g (Refused why) = Unit {0}
+abbrev pub Small : ℕ → Result (ℕ × Cursor) Refusal → Type 0
+Small g (Ok (n, c)) = n < group_size ^ g
+Small g (Err why) = Unit {0}

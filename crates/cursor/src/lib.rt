@@ -42,14 +42,14 @@ impl Refusal {
         ensures { result ≡ place_of self }
     {
         match self {
-            Refusal::Ended(at) => at,
-            Refusal::Form(at) => at,
-            Refusal::Tag(at) => at,
-            Refusal::Count(at) => at,
-            Refusal::Name(at) => at,
-            Refusal::Bound(at) => at,
-            Refusal::Crowd(at) => at,
-            Refusal::After(at) => at,
+            Refusal::Ended(at)
+            | Refusal::Form(at)
+            | Refusal::Tag(at)
+            | Refusal::Count(at)
+            | Refusal::Name(at)
+            | Refusal::Bound(at)
+            | Refusal::Crowd(at)
+            | Refusal::After(at) => at,
         }
     }
 }
@@ -59,17 +59,8 @@ pub struct Cursor {
     pub at: usize,
 }
 
-#[derive(Clone, Copy)]
-pub enum Step {
-    Value(Numeral, Cursor),
-    Refused(Refusal),
-}
-
-fn wide(b: u8) -> Numeral
-    ensures { (result ≡ b) × (result < 256) }
-{
-    b as Numeral
-}
+// What a step came to: the number read and the next cursor, or why there is none.
+pub type Step = Result<(Numeral, Cursor), Refusal>;
 
 // A last byte 00 of a longer number.
 fn padded(b: Numeral, first: usize, at: usize) -> bool
@@ -80,59 +71,53 @@ fn padded(b: Numeral, first: usize, at: usize) -> bool
 
 impl Cursor {
     // The groups from here on of the number that began at first; at most left of them may come.
+    #[tactic(auto, using(crate::proofs::Groups::ways))]
     fn group(self, s: &[u8], first: usize, left: u32) -> Step
         requires { left ≤ groups }
         ensures { (said s.now result ≡ number_from left first (from s.now self.at) self.at) × Small left result }
     {
-        let at = self.at;
         if left == 0 {
-            return Step::Refused(Refusal::Form(first));
+            return Err(Refusal::Form(first));
         }
+        let at = self.at;
         if s.len() <= at {
-            return Step::Refused(Refusal::Ended(at));
+            return Err(Refusal::Ended(at));
         }
-        let b = wide(s[at]);
-        if b < GROUP_SIZE {
-            if padded(b, first, at) {
-                return Step::Refused(Refusal::Form(first));
-            }
-            return Step::Value(b, Cursor { at: at + 1 });
-        }
+        let b = Numeral::from(s[at]);
         let next = Cursor { at: at + 1 };
-        let rest = next.group(s, first, left - 1);
-        let Step::Value(n, end) = rest else {
-            return rest;
-        };
-        Step::Value(b - GROUP_SIZE + GROUP_SIZE * n, end)
+        if GROUP_SIZE <= b {
+            let (n, end) = next.group(s, first, left - 1)?;
+            return Ok((b - GROUP_SIZE + GROUP_SIZE * n, end));
+        }
+        if padded(b, first, at) {
+            return Err(Refusal::Form(first));
+        }
+        Ok((b, next))
     }
 
     // Most numbers are one byte: those need no recursion.
+    #[tactic(auto, using(crate::proofs::Groups::one_byte))]
     pub fn number(self, s: &[u8]) -> Step
         ensures { said s.now result ≡ number_from groups self.at (from s.now self.at) self.at }
     {
         let at = self.at;
         if at < s.len() {
-            let b = wide(s[at]);
+            let b = Numeral::from(s[at]);
             if b < GROUP_SIZE {
-                return Step::Value(b, Cursor { at: at + 1 });
+                return Ok((b, Cursor { at: at + 1 }));
             }
         }
         self.group(s, at, GROUPS)
     }
 
     // A number of at most most, or the refusal why.
+    #[tactic(auto, unfolding(condition::specs::Reading::up_to))]
     fn up_to(self, s: &[u8], most: Numeral, why: Refusal) -> Step
         requires { place_of why ≡ self.at }
         ensures { said s.now result ≡ up_to most (answer_of why) (from s.now self.at) self.at }
     {
-        let step = self.number(s);
-        let Step::Value(n, next) = step else {
-            return step;
-        };
-        if n <= most {
-            return Step::Value(n, next);
-        }
-        Step::Refused(why)
+        let (n, next) = self.number(s)?;
+        if n <= most { Ok((n, next)) } else { Err(why) }
     }
 
     pub fn tag(self, s: &[u8]) -> Step
@@ -141,17 +126,16 @@ impl Cursor {
         self.up_to(s, LAST_TAG, Refusal::Tag(self.at))
     }
 
+    #[tactic(auto, unfolding(condition::specs::Reading::read_count))]
     pub fn count(self, s: &[u8]) -> Step
         ensures { said s.now result ≡ read_count (from s.now self.at) self.at }
     {
-        let step = self.number(s);
-        let Step::Value(k, next) = step else {
-            return step;
-        };
+        let (k, next) = self.number(s)?;
         if 2 <= k {
-            return Step::Value(k, next);
+            Ok((k, next))
+        } else {
+            Err(Refusal::Count(self.at))
         }
-        Step::Refused(Refusal::Count(self.at))
     }
 
     pub fn name(self, s: &[u8], last: Numeral) -> Step

@@ -1,15 +1,14 @@
 -- `reading::read` meets its contract: the root is read from byte 0 into node 0, and then the bytes must end.
+use Rattle.std.proofs.lemmas.Result.{err_from_is_err_and}
 use Rattle.reading.proofs.Ways as ways
 use Rattle.reading.proofs.read.Goals as goal
 
-pub returns-in_default : goal.returns-in_default
-returns-in_default c =
-    ways.whole_stops _ _ _ _ c.node-part.ensures _ _ c.in_default.is c.refused.ensures
+pub returns-in_err-tree : goal.returns-in_err-tree
+returns-in_err-tree c =
+    let p = err_from_is_err_and c.from_residual.result c.from_residual.ensures.1 in rw (p.1, p.2) (ways.whole_stops _ _ _ _ c.in_err-tree.ensures)
 
 pub returns-then-at-s : goal.returns-then-at-s
-returns-then-at-s c =
-    ways.whole_after _ _ _ _ c.node-part.ensures _ _ _ c.in-Read.is c.if-at-s.true
+returns-then-at-s c = ways.whole_after _ _ _ _ c.in_ok-tree.ensures c.if-at-s.true
 
 pub returns : goal.returns
-returns c =
-    ways.whole_read _ _ _ _ c.node-part.ensures _ _ _ c.in-Read.is c.if-at-s.false
+returns c = ways.whole_read _ _ _ _ c.in_ok-tree.ensures c.if-at-s.false
