@@ -33,8 +33,7 @@ impl<'a> Assignment<'a> {
     }
 
     // Number 0 is always 0, and number x stands at x - 1.
-    #[tactic(auto, using(crate::proofs::Ends::number_zero, crate::proofs::Ends::number_placed, std::proofs::lemmas::Grind::common_steps,
-        std::proofs::lemmas::Option::gets, std::proofs::lemmas::Int::ints))]
+    #[tactic(auto, using(crate::proofs::Ends::number_zero, crate::proofs::Ends::number_placed, std::proofs::lemmas::Grind::common_steps, std::proofs::lemmas::Option::gets, std::proofs::lemmas::Int::ints))]
     fn number(self, x: u32) -> i64
         ensures { (result ≡ value (assignment_of self.entry) x) × (mag result < 2 ^ 31) }
     {
@@ -45,7 +44,6 @@ impl<'a> Assignment<'a> {
     }
 
     // x - y <= c, where c is kept as w.
-    #[tactic(auto, using(std::proofs::lemmas::Int::ints), unfolding(condition::specs::Meaning::met))]
     pub fn at_most(self, x: u32, y: u32, w: u32) -> bool
         ensures { result ≡ met (at_most x y (shifted w)) (assignment_of self.entry) }
     {
@@ -69,7 +67,7 @@ pub fn both(all: bool, v: bool, u: bool) -> bool
 
 // The tree at i, of at most `left` nodes. That i + left is small keeps every sum below from wrapping.
 #[cycle(children_node)]
-fn node(ns: &[u64], i: usize, left: usize, a: Assignment<'_>) -> bool
+fn node(ns: &[Node], i: usize, left: usize, a: Assignment<'_>) -> bool
     requires { i + left ≤ question_room }
     ensures { Judged (node_at ns.now) i left (assignment_of a.entry) result }
 {
@@ -86,14 +84,7 @@ fn node(ns: &[u64], i: usize, left: usize, a: Assignment<'_>) -> bool
 
 // The k trees from i on, of at most `left` nodes together.
 #[cycle(children_node)]
-fn children(
-    ns: &[u64],
-    i: usize,
-    left: usize,
-    all: bool,
-    k: u32,
-    a: Assignment<'_>,
-) -> bool
+fn children(ns: &[Node], i: usize, left: usize, all: bool, k: u32, a: Assignment<'_>) -> bool
     requires { i + left ≤ question_room }
     ensures { JudgedAll (node_at ns.now) i left (join_of all) k (assignment_of a.entry) result }
 {
@@ -110,7 +101,7 @@ fn children(
 }
 
 // Whether an assignment makes true the tree that stands from node 0 on.
-pub fn judge(ns: &[u64], a: Assignment<'_>) -> bool
+pub fn judge(ns: &[Node], a: Assignment<'_>) -> bool
     ensures { (t : Tree) → Laid t (node_at ns.now) 0 → nodes t ≤ question_room → result ≡ holds t (assignment_of a.entry) }
 {
     node(ns, 0, QUESTION_ROOM, a)
