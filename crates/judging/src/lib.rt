@@ -33,7 +33,7 @@ impl<'a> Assignment<'a> {
     }
 
     // Number 0 is always 0, and number x stands at x - 1.
-    #[tactic(auto, using(crate::proofs::Ends::number_zero, crate::proofs::Ends::number_placed, std::proofs::lemmas::Grind::common_steps, std::proofs::lemmas::Option::gets, std::proofs::lemmas::Int::ints))]
+    #[tactic(auto, using(crate::proofs::Ends::number_zero, crate::proofs::Ends::number_placed, std::proofs::lemmas::Option::gets))]
     fn number(self, x: u32) -> i64
         ensures { (result ≡ value (assignment_of self.entry) x) × (mag result < 2 ^ 31) }
     {
