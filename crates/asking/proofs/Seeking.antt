@@ -9,8 +9,7 @@ use Rattle.nodes.specs.declared.Node.{Node}
 use Rattle.nodes.specs.Memory.{size_of}
 use Rattle.nodes.specs.Laid.{nodes, nodes_all, Laid, LaidAll}
 use Rattle.nodes.proofs.Laws.{some_node, sized}
-use Rattle.asking.specs.declared.Place.{Place}
-use Rattle.asking.specs.Asked.{ends_from, onto, Among, Found}
+use Rattle.asking.specs.Asked.{ends_from, onto, Among, Sought}
 use Rattle.asking.proofs.EndsCounted.{ends_are}
 use Rattle.asking.proofs.Parts.{rest_laid}
 use Rattle.asking.proofs.Onto.{onto_again, onto_nodes, onto_live}
@@ -72,7 +71,7 @@ module _ {n : ℕ → Node} {last m : ℕ} where
         never (more t us) l e = omega (arith, sized t n at l.0)
 
     module _ {e : ℕ} (k : ℕ → Node) (from : (x : ℕ) → k x ≡ n (at + x)) (fit : s ≤ last - at) (counted : e ≡ ends_from k 0 s) where
-      pub seek_found : end < e → 1 ≤ s → Found n last m (record { at = at; size = s; end = end })
+      pub seek_found : end < e → 1 ≤ s → Sought n last m (record { at = at; size = s; end = end })
       unfolding nodes live Laid
       seek_found lt some = record {
         some = some;

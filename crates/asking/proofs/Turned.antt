@@ -1,7 +1,7 @@
 -- The nodes of a negation are those of the tree, opposed: negation turns each node and moves none. So trees whose nodes were copied stand
 -- in the copy as they are, and trees whose nodes were copied opposed stand there negated.
-use Prim.Native.Nat.{ℕ, suc, ◌+◌, ◌<◌, ◌≤◌}
-use mathlib.Core.Path.{◌≡◌, refl, sym, ap, ap₂, ◌∙◌}
+use Prim.Native.Nat.{ℕ, suc, ◌+◌, ◌<◌}
+use mathlib.Core.Path.{◌≡◌, refl, ap, ap₂, ◌∙◌}
 use mathlib.Core.Bool.{Bool, true, false, not, cond}
 use native.Mathlib.Omega.{arith}
 use Rattle.condition.specs.Meaning.{End, opposite, Join, all, any, other, Tree, plain, leaf, join, Forest, none, more, count, negate, negate_all}

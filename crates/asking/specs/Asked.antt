@@ -82,15 +82,15 @@ pub record Among (ts : Forest) (m : ℕ) (c : Place) : Type 0 where
   pub ended : live_all elder + c.end ≡ m
   pub inside : c.end < live t
 
-pub record Found (n : ℕ → Node) (last m : ℕ) (c : Place) : Type 0 where
+pub record Sought (n : ℕ → Node) (last m : ℕ) (c : Place) : Type 0 where
   pub some : 1 ≤ c.size
   pub high : c.at + c.size ≤ last
   pub right : (ts : Forest) → LaidAll ts n 0 → nodes_all ts ≡ last → Among ts m c
 
 -- such a place; or none, where the trees in the first `last` nodes have no end m
-abbrev pub Sought : (ℕ → Node) → ℕ → ℕ → Option Place → Type 0
-Sought n last m None = (ts : Forest) → LaidAll ts n 0 → nodes_all ts ≡ last → live_all ts ≤ m
-Sought n last m (Some c) = Found n last m c
+abbrev pub Seeks : (ℕ → Node) → ℕ → ℕ → Option Place → Type 0
+Seeks n last m None = (ts : Forest) → LaidAll ts n 0 → nodes_all ts ≡ last → live_all ts ≤ m
+Seeks n last m (Some c) = Sought n last m c
 
 -- the siblings of the tree at c stand in the output, starred, in `size` nodes
 pub record Siblings (n : ℕ → Node) (c : Place) (size : ℕ) (a : Bool) (depth : ℕ) (o : ℕ → Node) : Type 0 where
@@ -103,15 +103,15 @@ pub record Stand (us : Forest) (o : ℕ → Node) (w : Wrote) : Type 0 where
   pub sized : w.size ≡ nodes_all us
   pub counted : w.trees ≡ count us
 
-pub record Gathered (n : ℕ → Node) (size m depth : ℕ) (opp : Bool) (o : ℕ → Node) (w : Wrote) : Type 0 where
+pub record Gathers (n : ℕ → Node) (size m depth : ℕ) (opp : Bool) (o : ℕ → Node) (w : Wrote) : Type 0 where
   pub small : w.size ≤ size
   pub few : w.trees ≤ size
   pub right : (t : Tree) → Laid t n 0 → nodes t ≡ size → deep t ≤ depth → Stand (gathered t m opp) o w
 
 -- what is asked of the tree in the first `size` nodes; or nothing, where it has no end m
-abbrev pub Gathers : (ℕ → Node) → ℕ → ℕ → ℕ → Bool → (ℕ → Node) → Option Wrote → Type 0
-Gathers n size m depth opp o None = (t : Tree) → Laid t n 0 → nodes t ≡ size → deep t ≤ depth → live t ≤ m
-Gathers n size m depth opp o (Some w) = Gathered n size m depth opp o w
+abbrev pub MayGather : (ℕ → Node) → ℕ → ℕ → ℕ → Bool → (ℕ → Node) → Option Wrote → Type 0
+MayGather n size m depth opp o None = (t : Tree) → Laid t n 0 → nodes t ≡ size → deep t ≤ depth → live t ≤ m
+MayGather n size m depth opp o (Some w) = Gathers n size m depth opp o w
 
 pub record Asks (n : ℕ → Node) (m : ℕ) (opp : Bool) (o : List Node) (r : ℕ) (o' : List Node) : Type 0 where
   pub small : r ≤ size_of (n 0) + 1

@@ -5,7 +5,7 @@
 
 ghost use Rattle.std.specs.Prelude.{◌≡◌, ℕ, ◌+◌, ◌≤◌, ◌<◌, length};
 ghost use Rattle.nodes.specs.Memory.{node_at};
-ghost use Rattle.asking.specs.Asked.{turned, is_end, ends_from, Negates, NegatesAll, Stars, Sought, Siblings, Gathers, Asks, Lives};
+ghost use Rattle.asking.specs.Asked.{turned, is_end, ends_from, Negates, NegatesAll, Stars, Seeks, Siblings, MayGather, Asks, Lives};
 
 use condition::{DEEPEST, QUESTION_ROOM};
 use nodes::{Node, node_at, put_node, size_at};
@@ -102,7 +102,7 @@ fn ends(ns: &[Node], n: usize) -> usize
 
 // Of the trees in the first n nodes, the one that has their end m.
 fn seek(ns: &[Node], n: usize, m: usize) -> Option<Place>
-    ensures { Sought (node_at ns.now) n m result }
+    ensures { Seeks (node_at ns.now) n m result }
 {
     let mut at = 0;
     let mut end = m;
@@ -114,11 +114,7 @@ fn seek(ns: &[Node], n: usize, m: usize) -> Option<Place>
         }
         let e = ends(rest(ns, at), s);
         if end < e {
-            return Some(Place {
-                at,
-                size: s,
-                end,
-            });
+            return Some(Place { at, size: s, end });
         }
         at += s;
         end -= e;
@@ -147,7 +143,7 @@ fn turn(n: Node, opposite: bool) -> Node
 // child that has the end, then what it asks of that child. None where there is no such end.
 fn gather(ns: &[Node], end: usize, depth: u32, opposite: bool, out: &mut [Node]) -> Option<Wrote>
     requires { 1 ≤ length out.old }
-    ensures { Gathers (node_at ns.now) (length out.old) end depth opposite (node_at out.new) result }
+    ensures { MayGather (node_at ns.now) (length out.old) end depth opposite (node_at out.new) result }
 {
     match node_at(ns, 0) {
         Node::Plain(_) => None,
@@ -161,7 +157,13 @@ fn gather(ns: &[Node], end: usize, depth: u32, opposite: bool, out: &mut [Node])
                 return None;
             }
             siblings(below, c, all, deep, &mut out[..others]);
-            let r = gather(rest(below, c.at), c.end, deep, opposite, &mut out[others..others + c.size])?;
+            let r = gather(
+                rest(below, c.at),
+                c.end,
+                deep,
+                opposite,
+                &mut out[others..others + c.size],
+            )?;
             Some(Wrote {
                 size: others + r.size,
                 trees: trees + r.trees,

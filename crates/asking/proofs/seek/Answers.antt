@@ -1,5 +1,4 @@
 -- `asking::seek` meets its contract: the trees passed have the ends before the one sought (Seeking.antt).
-use native.Mathlib.Omega.{arith}
 use Rattle.asking.proofs.Seeking.{seek_none, seek_over, seek_beyond, seek_found, seek_on}
 use Rattle.asking.proofs.seek.Goals as goal
 
