@@ -4,11 +4,5 @@ use mir.Facts.{to_z_pos, to_z-of_z}
 use Rattle.differences.proofs.Shown.{read_fits, shown, shown_fits}
 use Rattle.differences.proofs.number.Goals as goal
 
-pub overflow_cast-result : goal.overflow_cast-result
-overflow_cast-result c = read_fits _ c.requires
-
-pub overflow_sub-result : goal.overflow_sub-result
-overflow_sub-result c = rw (to_z_pos w32 (read_fits _ c.requires).sfits) (shown_fits _ c.requires)
-
 pub returns : goal.returns
 returns c = rw (to_z_pos w32 (read_fits _ c.requires).sfits, to_z-of_z (shown_fits _ c.requires)) (shown _ c.requires)
