@@ -6,7 +6,7 @@ ghost use Rattle.std.specs.Prelude.{◌≡◌, List, cond, not, ℕ, ◌+◌, �
 ghost use Rattle.std.specs.Int.Signed.{mag};
 ghost use Rattle.condition.specs.Limits.{question_room};
 ghost use Rattle.condition.specs.Meaning.{value, is, at_most, met, joined, Tree, holds, given};
-ghost use Rattle.nodes.specs.Words.{node_at};
+ghost use Rattle.nodes.specs.Memory.{node_at};
 ghost use Rattle.nodes.specs.Laid.{shifted, join_of, nodes, Laid};
 ghost use Rattle.judging.specs.Judged.{Judged, JudgedAll};
 

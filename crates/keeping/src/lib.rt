@@ -4,7 +4,7 @@
 #![tactic(auto)]
 
 ghost use Rattle.std.specs.Prelude.{◌≡◌, suc, ◌*◌, ◌%◌, ◌≤◌, ◌<◌, length};
-ghost use Rattle.nodes.specs.Words.{node_at};
+ghost use Rattle.nodes.specs.Memory.{node_at};
 ghost use Rattle.keeping.specs.Kept.{kept, questions, Notes, Learns, Room, Replies};
 
 use condition::{ASSIGNED, QUESTION_ROOM, Whole};

@@ -16,7 +16,7 @@ use borrow.Author.Tests.{lt-ltb}
 use Rattle.condition.proofs.Putting.{split}
 use Rattle.nodes.specs.declared.Node.{Node}
 use Rattle.nodes.specs.declared.Node.TheVariants as node
-use Rattle.nodes.specs.Words.{size_of}
+use Rattle.nodes.specs.Memory.{size_of}
 use Rattle.nodes.specs.Laid.{shifted, join_of, flag_end, bound_end, nodes, nodes_all, Laid, LaidAll}
 use Rattle.nodes.proofs.Laws.{some_node, sized, at_plain, at_flag, at_bound, at_join, at_none, at_more}
 use Rattle.judging.proofs.Ends.{flag_turned, bound_turned}

@@ -6,7 +6,7 @@
 ghost use Rattle.std.specs.Prelude.{◌≡◌, ◌+◌, ◌≤◌, ◌<◌, length};
 ghost use Rattle.condition.specs.Limits.{question_room};
 ghost use Rattle.condition.specs.Meaning.{given};
-ghost use Rattle.nodes.specs.Words.{node_at};
+ghost use Rattle.nodes.specs.Memory.{node_at};
 ghost use Rattle.turning.specs.Turned.{side, Clears, Ends, Turns, TurnsAll, Tells};
 
 use condition::{QUESTION_ROOM, Whole};

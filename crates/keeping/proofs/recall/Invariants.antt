@@ -1,6 +1,6 @@
 -- What the loop of `keeping::recall` keeps, and what falls; Answers.antt says the argument.
 use Prim.Native.Nat.{◌-◌}
-use Rattle.nodes.specs.Words.{node_at}
+use Rattle.nodes.specs.Memory.{node_at}
 use Rattle.keeping.specs.Kept.{Learns}
 use Rattle.keeping.proofs.recall.Given as goal
 

@@ -1,6 +1,6 @@
 -- What a loop of `turning::node` and `turning::children` keeps, and what falls; Answers.antt says the argument.
 use Rattle.condition.specs.Meaning.{given}
-use Rattle.nodes.specs.Words.{node_at}
+use Rattle.nodes.specs.Memory.{node_at}
 use Rattle.turning.proofs.Walk.{Walked}
 use Prim.Native.Nat.{◌+◌, ◌*◌}
 use Rattle.turning.proofs.+children_node.Given as goal
