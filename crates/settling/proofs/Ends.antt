@@ -7,6 +7,8 @@ use native.Mathlib.Decide.{ℕ_discrete}
 use lib.ListN.{length, get_or, set}
 use lib.Seq.{get_or-set_same, get_or-set_other}
 use Rattle.std.specs.Prelude.{Some, None}
+use Rattle.std.specs.Cmp.{booleans_Decides}
+use Rattle.std.proofs.lemmas.Option.{none-some}
 use Rattle.condition.specs.Meaning.{Assignment, met}
 use Rattle.nodes.specs.Laid.{flag_end}
 use Rattle.settling.specs.declared.settled.Settled.{Settled}
@@ -23,21 +25,9 @@ module _ (s : Settled) (so : Bool) (p : ℕ) where
   mark_known b h = record {
     ors = refl;
     many = refl;
-    meets = λ e a. ((λ k. (k, (flag_met so p a).1 (k.flags.says p b h ∙ same b so e))), (λ k. k.0));
-    none = λ e w a k m. other b so e (sym (k.flags.says p b h) ∙ (flag_met so p a).0 m);
+    meets = λ e a. ((λ k. (k, (flag_met so p a).1 (k.flags.says p b h ∙ (booleans_Decides b so).0 e))), (λ k. k.0));
+    none = λ e w a k m. true≢false (sym ((booleans_Decides b so).1 (sym (k.flags.says p b h) ∙ (flag_met so p a).0 m)) ∙ e);
   }
-    where
-      same : (b so : Bool) → beq b so ≡ true → b ≡ so
-      same true true e = refl
-      same true false e = absurd (true≢false (sym e))
-      same false true e = absurd (true≢false (sym e))
-      same false false e = refl
-
-      other : (b so : Bool) → beq b so ≡ false → b ≡ so → ⊥
-      other true true e h = true≢false e
-      other true false e h = true≢false h
-      other false true e h = true≢false (sym h)
-      other false false e h = true≢false e
 
   module _ (new : get_or s.flags p None ≡ None) (few : p < length s.flags) (s' : Settled) (put : s'.flags ≡ set s.flags p (Some so)) where
     here : get_or s'.flags p None ≡ Some so
@@ -51,7 +41,7 @@ module _ (s : Settled) (so : Bool) (p : ℕ) where
       (λ g. (
         record {
           says = λ q so' e. elim (ℕ_discrete q p) [
-            | yes same ↦ absurd (differ so' (sym new ∙ ap (λ x. get_or s.flags x None) (sym same) ∙ e))
+            | yes same ↦ absurd (none-some so' (sym new ∙ ap (λ x. get_or s.flags x None) (sym same) ∙ e))
             | no ne ↦ g.says q so' (elsewhere q ne ∙ e)
           ];
         },
@@ -67,9 +57,6 @@ module _ (s : Settled) (so : Bool) (p : ℕ) where
       where
         side : (so' : Bool) → Some so ≡ Some so' → so ≡ so'
         side so' e = cc
-
-        differ : (so' : Bool) → None ≡ Some so' → ⊥
-        differ so' e = cc
 
     pub mark_set : s'.ors ≡ s.ors → s'.many ≡ s.many → s'.table ≡ s.table → Learns s (flag_end so p) true s'
     mark_set o m t = record {

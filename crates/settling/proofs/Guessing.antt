@@ -4,13 +4,15 @@ use Prim.Native.Nat.{ℕ, zero, suc, ◌+◌, ◌-◌, ◌≤◌, ◌<◌}
 use mathlib.Core.Path.{◌≡◌, refl, sym, subst, ap, ◌∙◌}
 use mathlib.Core.List.{List, [], ◌∷◌}
 use mathlib.Core.Logic.{◌↔◌}
-use mathlib.Core.Bool.{Bool, true, false, ◌||◌}
+use mathlib.Core.Bool.{Bool, true, false, ◌||◌, true≢false}
 use native.Mathlib.Omega.{arith}
 use native.Mathlib.Decide.{dec_le}
 use lib.IntN.{ℤ, pos}
 use lib.ListN.{length, get_or, get_or-eq_default}
 use Rattle.std.specs.Prelude.{Option, Some, None}
 use Rattle.std.specs.Option.{unwrap_or}
+use Rattle.std.proofs.lemmas.Option.{none-some}
+use Rattle.std.proofs.lemmas.Bool.{and_parts, and_from}
 use Rattle.condition.specs.Limits.{last_boolean, booleans, last_number, question_room}
 use Rattle.condition.specs.Meaning.{Assignment, value, met, any, Tree, Forest, none, more, count, holds, each, given}
 use Rattle.condition.specs.Satisfying.{Satisfiable, Named, NamedAll}
@@ -25,8 +27,8 @@ use Rattle.settling.specs.declared.settled.Settled.{Settled}
 use Rattle.settling.specs.declared.settled.Found.{Found}
 use Rattle.settling.specs.Settled.{Agrees, Clear, Stands, Waits, owed, bulk, Work, Done, Settles}
 use Rattle.settling.specs.Settled.{Bits, Shows, Answers, Chosen, Guesses, Attempts, Finds}
-use Rattle.settling.proofs.Forests.{both, together, nothing_left}
-use Rattle.settling.proofs.Taking.{differ, kept}
+use Rattle.settling.proofs.Forests.{nothing_left}
+use Rattle.settling.proofs.Taking.{kept}
 
 -- an answer about one claim is one about an equal claim
 answers_same : {P Q : Assignment → Type 0} → ((a : Assignment) → P a ↔ Q a) → (r : Option Found) → Answers P r → Answers Q r
@@ -53,12 +55,9 @@ unfolding given
 given_agrees bits numbers b z h = record {
   says = λ p so e. elim (dec_le p last_boolean) [
     | yes l ↦ h.each p l ∙ ap (λ x. unwrap_or x false) e
-    | no g ↦ absurd (settled so (sym (get_or-eq_default b None (omega arith)) ∙ e))
+    | no g ↦ absurd (none-some so (sym (get_or-eq_default b None (omega arith)) ∙ e))
   ];
 }
-  where
-    settled : (so : Bool) → None ≡ Some so → ⊥
-    settled so e = cc
 
 -- nothing waits
 pub guess_done : (n : ℕ → Node) (s : Settled) (left : ℕ) → s.many ≡ 0 → length s.flags ≡ booleans → (bits : ℕ) (numbers : List ℤ) →
@@ -114,8 +113,8 @@ module _ (n : ℕ → Node) (s : Settled) (left : ℕ) where
             many = sym (ek ∙ c.0);
             time = omega arith;
             same = λ a. (
-              (λ d. record { knows = d.knows; each = refl; owed = together (ap (λ y. holds y a) x.same ∙ d.one) d.owed }),
-              (λ d. let q = both (holds u a) (owed os a) d.owed in record
+              (λ d. record { knows = d.knows; each = refl; owed = and_from _ _ (ap (λ y. holds y a) x.same ∙ d.one) d.owed }),
+              (λ d. let q = and_parts (holds u a) (owed os a) d.owed in record
                   { knows = d.knows; one = sym (ap (λ y. holds y a) x.same) ∙ q.0; owed = q.1 }),
             );
           }
@@ -126,7 +125,7 @@ module _ (n : ℕ → Node) (s : Settled) (left : ℕ) where
     guess_over z os w few time a d =
         let r = p.rest os w few time in
         let c = (r.same a).1 d in
-        differ (sym (ap (λ x. each x any a) (sym (at_none r.us k r.many z)) ∙ c.one))
+        true≢false (sym (ap (λ x. each x any a) (sym (at_none r.us k r.many z)) ∙ c.one))
 
     module _ (nz : k ≡ 0 → ⊥) (size : ℕ) (is : size ≡ size_of (n from)) where
       pub guess_far : question_room < from + size → Guesses n s left None
@@ -179,7 +178,7 @@ module _ (n : ℕ → Node) (s : Settled) (left : ℕ) where
       unfolding holds
       chosen_first os c a d = record {
         knows = d.knows;
-        one = ap (λ x. each x any a) c.both ∙ ap (λ x. x || each c.others any a) (both (holds c.u a) true d.each).0;
+        one = ap (λ x. each x any a) c.both ∙ ap (λ x. x || each c.others any a) (and_parts (holds c.u a) true d.each).0;
         owed = d.owed;
       }
 
@@ -197,7 +196,7 @@ module _ (n : ℕ → Node) (s : Settled) (left : ℕ) where
           more_true false e = e
 
           by : (v : Bool) → holds c.u a ≡ v → Chosen s c.r.us c.r.under a → (v || each c.others any a) ≡ true → each c.others any a ≡ true
-          by true e d q = absurd (no_one a (record { knows = d.knows; each = together e refl; owed = d.owed }))
+          by true e d q = absurd (no_one a (record { knows = d.knows; each = and_from _ _ e refl; owed = d.owed }))
           by false e d q = q
 
       pub guess_found : (f : Found) → Attempts n from (from + size) s (left - 1) (Some f) → Guesses n s left (Some f)
@@ -236,21 +235,18 @@ module _ (n : ℕ → Node) (from to : ℕ) (s : Settled) (left : ℕ) (copy : S
     (λ d. record { knows = kept (sym flags) (sym table) a d.knows; each = d.each; owed = d.owed }),
   )
 
-  module _ (s' : Settled) where
-    pub attempt_stopped : Settles n from to copy false s' → Attempts n from to s left None
-    attempt_stopped h us os w e time a d = h.stops refl us os (work us os w) e a ((done us os a).1 d)
-
-    pub attempt_guessed : Settles n from to copy true s' → (r : Option Found) → Guesses n s' left r → Attempts n from to s left r
-    attempt_guessed h r g us os w e time =
-        let q = h.goes refl us os (work us os w) e in
-        let m = nothing_left q.us' (omega (arith, q.end)) in
-        answers_same
-        (λ a. (
-          (λ d. (done us os a).0 ((q.same a).0 (subst (λ x. Done s' x q.os' a) (sym m) d))),
-          (λ d. subst (λ x. Done s' x q.os' a) m ((q.same a).1 ((done us os a).1 d))),
-        ))
-        r
-        (g q.os' q.work.waits (omega (arith, q.work.few)) (omega (arith, q.less, w.few)))
+  pub attempt_guessed : (s' : Settled) → Settles n from to copy true s' → (r : Option Found) → Guesses n s' left r →
+      Attempts n from to s left r
+  attempt_guessed s' h r g us os w e time =
+      let q = h.goes refl us os (work us os w) e in
+      let m = nothing_left q.us' (omega (arith, q.end)) in
+      answers_same
+      (λ a. (
+        (λ d. (done us os a).0 ((q.same a).0 (subst (λ x. Done s' x q.os' a) (sym m) d))),
+        (λ d. subst (λ x. Done s' x q.os' a) m ((q.same a).1 ((done us os a).1 d))),
+      ))
+      r
+      (g q.os' q.work.waits (omega (arith, q.work.few)) (omega (arith, q.less, w.few)))
 
 -- ---- find
 
@@ -275,14 +271,11 @@ module _ (n : ℕ → Node) (numbers : List ℤ) (s : Settled) (clear : Clear s)
       let m = small u f sat in (
         m.0,
         record {
-          knows = record { flags = record { says = λ p so e. absurd (unset so (sym (clear.flags p) ∙ e)) }; numbers = (clear.numbers.meets m.0).1 m.1 };
-          each = together m.2 refl;
+          knows = record { flags = record { says = λ p so e. absurd (none-some so (sym (clear.flags p) ∙ e)) }; numbers = (clear.numbers.meets m.0).1 m.1 };
+          each = and_from _ _ m.2 refl;
           owed = refl;
         },
       )
-    where
-      unset : (so : Bool) → None ≡ Some so → ⊥
-      unset so e = cc
 
   module _ (size : ℕ) (is : size ≡ size_of (n 0)) (s' : Settled) where
     pub find_stopped : Settles n 0 size s false s' → Finds n numbers None numbers
@@ -316,8 +309,8 @@ module _ (n : ℕ → Node) (numbers : List ℤ) (s : Settled) (clear : Clear s)
     pub find_found : Settles n 0 size s true s' → (f : Found) → Guesses n s' question_room (Some f) → Finds n numbers (Some f.bits) f.numbers
     unfolding holds
     find_found h f g = record {
-      kept = λ e. absurd (let z : ◌≡◌ {A = ℕ} 0 1 = cc in omega arith);
+      kept = λ e. absurd (none-some f.bits (sym e));
       right = λ z u l few named.
           let d = guessed h (Some f) g u l few named in
-          ((both (holds u (given f.bits f.numbers)) true d.each).0, (clear.numbers.meets (given f.bits f.numbers)).0 d.knows.numbers);
+          ((and_parts (holds u (given f.bits f.numbers)) true d.each).0, (clear.numbers.meets (given f.bits f.numbers)).0 d.knows.numbers);
     }

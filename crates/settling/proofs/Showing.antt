@@ -1,5 +1,4 @@
--- The assignment that is shown. The bits are made from the highest down, each time twice those so far and one more (condition's
--- Given).
+-- The bits that are shown are made from the highest down, each time twice those so far and one more (condition's Given).
 use Prim.Native.Nat.{ℕ, suc, ◌+◌, ◌-◌, ◌*◌, ◌/◌, ◌%◌, ◌^◌, ◌≤◌, ◌<◌}
 use mathlib.Core.Path.{◌≡◌, refl, sym, ap, ◌∙◌}
 use mathlib.Core.List.{List}
@@ -14,9 +13,6 @@ use Rattle.std.specs.Prelude.{Option, None}
 use Rattle.std.specs.Option.{unwrap_or}
 use Rattle.condition.specs.Limits.{last_boolean}
 use Rattle.condition.proofs.Given.{lowest, higher}
-use Rattle.settling.specs.Settled.{Bits}
-
--- ---- bits
 
 abbrev pub said : List (Option Bool) → ℕ → Bool
 said b q = unwrap_or (get_or b q None) false
@@ -26,9 +22,6 @@ pub record Made (b : List (Option Bool)) (r p : ℕ) : Type 0 where
   pub few : p ≤ 32
   pub small : r < 2 ^ (32 - p)
   pub each : (q : ℕ) → p ≤ q → q ≤ last_boolean → eqb (r / 2 ^ (q - p) % 2) 1 ≡ said b q
-
-pub made_none : (b : List (Option Bool)) → Made b 0 32
-made_none b = record { few = omega arith; small = omega arith; each = λ q h l. absurd (omega arith) }
 
 pub made_more : (b : List (Option Bool)) (r p : ℕ) (v : Bool) → Made b r p → 0 < p → v ≡ said b (p - 1) →
     Made b (2 * r + bool_byte v) (p - 1)
@@ -55,6 +48,3 @@ made_more b r p v m h e = record {
 
     further : (q : ℕ) → p - 1 ≤ q → (q ≡ p - 1 → ⊥) → q - (p - 1) ≡ suc (q - p)
     further q l ne = omega arith
-
-pub made_all : (b : List (Option Bool)) (r p : ℕ) → p ≤ 0 → Made b r p → Bits b r
-made_all b r p z m = record { each = λ q l. ap (λ k. eqb (r / 2 ^ k % 2) 1) (omega arith) ∙ m.each q (omega arith) l }

@@ -4,12 +4,13 @@ use Prim.Native.Nat.{ℕ, ◌+◌, ◌-◌, ◌≤◌, ◌<◌}
 use mathlib.Core.Path.{◌≡◌, refl, sym, subst, ap, ◌∙◌}
 use mathlib.Core.List.{List, [], ◌∷◌}
 use mathlib.Core.Logic.{◌↔◌}
-use mathlib.Core.Bool.{Bool, true, false, ◌&&◌}
+use mathlib.Core.Bool.{Bool, true, false, ◌&&◌, true≢false}
 use native.Mathlib.Omega.{arith}
 use lib.ListN.{length, set}
 use lib.Seq.{get_or-set_same, get_or-set_other}
 use Rattle.std.specs.Prelude.{Option, Some, None}
 use Rattle.std.specs.Bool.{then_some}
+use Rattle.std.proofs.lemmas.Bool.{and_parts, and_from}
 use Rattle.condition.specs.Meaning.{Assignment, End, all, any, Tree, leaf, join, Forest, more, holds, each}
 use Rattle.condition.specs.Satisfying.{Named, NamedAll}
 use Rattle.nodes.specs.declared.Node.{Node}
@@ -18,10 +19,7 @@ use Rattle.nodes.specs.Laid.{flag_end, bound_end, nodes, nodes_all, Laid, LaidAl
 use Rattle.nodes.proofs.Laws.{some_node, at_plain, at_flag, at_bound, at_join}
 use Rattle.settling.specs.declared.settled.Settled.{Settled}
 use Rattle.settling.specs.Settled.{Knows, Learns, Holds, Or, Stands, Waits, owed, bulk, Work, Done, Reaches, Takes, Settles}
-use Rattle.settling.proofs.Forests.{append, append_nodes, append_laid, append_named, append_each, both, together, first}
-
-pub differ : {A : Type 0} → true ≡ false → A
-differ e = absurd (let z : ◌≡◌ {A = ℕ} 0 1 = cc in omega arith)
+use Rattle.settling.proofs.Forests.{append, append_nodes, append_laid, append_named, append_each, first}
 
 -- ---- the stack
 
@@ -92,14 +90,14 @@ module _ {n : ℕ → Node} {i : ℕ} {us : Forest} {s : Settled} {os : List Tre
     end = omega (arith, size_first w u rest same);
     less = omega (arith, size_first w u rest same);
     same = λ a. (
-      (λ d. let k = (iff a).0 d.knows in record { knows = k.0; each = each_first w u rest same a ∙ together k.1 d.each; owed = d.owed }),
-      (λ d. let e = both (holds u a) (each rest all a) (sym (each_first w u rest same a) ∙ d.each) in record
+      (λ d. let k = (iff a).0 d.knows in record { knows = k.0; each = each_first w u rest same a ∙ and_from _ _ k.1 d.each; owed = d.owed }),
+      (λ d. let e = and_parts (holds u a) (each rest all a) (sym (each_first w u rest same a) ∙ d.each) in record
           { knows = (iff a).1 (d.knows, e.0); each = e.1; owed = d.owed }),
     );
   }
 
   end_stops : ((a : Assignment) → Knows s a → holds u a ≡ true → ⊥) → (a : Assignment) → Done s us os a → ⊥
-  end_stops no_one a d = no_one a d.knows (both (holds u a) (each rest all a) (sym (each_first w u rest same a) ∙ d.each)).0
+  end_stops no_one a d = no_one a d.knows (and_parts (holds u a) (each rest all a) (sym (each_first w u rest same a) ∙ d.each)).0
 
   -- an `and`: its children first
   and_taken : (ts : Forest) → u ≡ join all ts → LaidAll ts n (i + 1) → Reaches n i us os s (i + 1) s
@@ -149,10 +147,10 @@ module _ {n : ℕ → Node} {i : ℕ} {us : Forest} {s : Settled} {os : List Tre
         end = omega (arith, size_first w u rest same);
         less = omega (arith, size_first w u rest same);
         same = λ a. (
-          (λ d. let q = both (holds u a) (owed os a) d.owed in record
-              { knows = kept h.flags h.table a d.knows; each = each_first w u rest same a ∙ together q.0 d.each; owed = q.1 }),
-          (λ d. let q = both (holds u a) (each rest all a) (sym (each_first w u rest same a) ∙ d.each) in record
-              { knows = kept (sym h.flags) (sym h.table) a d.knows; each = q.1; owed = together q.0 d.owed }),
+          (λ d. let q = and_parts (holds u a) (owed os a) d.owed in record
+              { knows = kept h.flags h.table a d.knows; each = each_first w u rest same a ∙ and_from _ _ q.0 d.each; owed = q.1 }),
+          (λ d. let q = and_parts (holds u a) (each rest all a) (sym (each_first w u rest same a) ∙ d.each) in record
+              { knows = kept (sym h.flags) (sym h.table) a d.knows; each = q.1; owed = and_from _ _ q.0 d.owed }),
         );
       }
 
@@ -171,7 +169,7 @@ module _ (n : ℕ → Node) (i : ℕ) (s : Settled) where
   take_plain false r q e = rw e (λ us os w some.
       let f = first us some in
       let t = at_plain n i f.u false q (laid_first w f.u f.rest f.same).0 in
-      end_stops w f.u f.rest f.same (λ a k y. differ (sym y ∙ ap (λ x. holds x a) t)))
+      end_stops w f.u f.rest f.same (λ a k y. true≢false (sym y ∙ ap (λ x. holds x a) t)))
 
   -- a boolean or a bound
   take_end : (e : End) (ok : Bool) (r : Option ℕ) (s' : Settled) → ((t : Tree) → Laid t n i → t ≡ leaf e) → Learns s e ok s' →
@@ -227,11 +225,6 @@ pub record Progress (n : ℕ → Node) (from to : ℕ) (s : Settled) (i : ℕ) (
   pub so_far : (us : Forest) (os : List Tree) → Work n from us s.ors s.many os → from + nodes_all us ≡ to → Reaches n from us os s i s'
 
 module _ (n : ℕ → Node) (from to : ℕ) (s : Settled) where
-  pub progress_none : Progress n from to s from s
-  progress_none = record {
-    so_far = λ us os w e. record { us' = us; os' = os; work = w; end = refl; less = omega arith; same = λ a. ((λ d. d), (λ d. d)) };
-  }
-
   module _ (i : ℕ) (s₁ : Settled) (p : Progress n from to s i s₁) where
     -- a node is left to take
     left : i < to → (us : Forest) (os : List Tree) (w : Work n from us s.ors s.many os) (e : from + nodes_all us ≡ to) →
@@ -255,16 +248,8 @@ module _ (n : ℕ → Node) (from to : ℕ) (s : Settled) where
 
     pub settle_stops : i < to → (s' : Settled) → Takes n i s₁ None s' → Settles n from to s false s'
     settle_stops h s' k = record {
-      goes = λ bad. differ (sym bad);
+      goes = λ bad. absurd (true≢false (sym bad));
       stops = λ e us os w q a d.
           let r = p.so_far us os w q in
           k r.us' r.os' r.work (left h us os w q) a ((r.same a).1 d);
-    }
-
-    pub settle_ends : to ≤ i → Settles n from to s true s₁
-    settle_ends h = record {
-      goes = λ ok us os w e.
-          let r = p.so_far us os w e in
-          subst (λ x. Reaches n from us os s x s₁) (omega (arith, r.end)) r;
-      stops = λ bad. differ bad;
     }

@@ -11,9 +11,10 @@ use nodes::{Node, count_at, node_at, size_at};
 
 #[derive(Clone, Copy)]
 pub struct Settled {
-    // the nodes of the `or`s that wait: a stack, in an array since nothing is allocated
+    // where the `or`s that wait stand: a stack, which is an array and a count since nothing is allocated
     ors: [u8; QUESTION_ROOM],
     many: usize,
+    // which way each boolean is settled
     flags: [Option<bool>; BOOLEANS],
     table: [Distance; CELLS],
     ghost few: { many ≤ question_room },
@@ -33,6 +34,7 @@ impl Settled {
     ghost use Rattle.nodes.specs.Laid.{flag_end, bound_end};
     ghost use Rattle.settling.specs.Settled.{Clear, Learns, Holds, Takes, Settles, Bits, Shows, Guesses, Attempts};
 
+    // Nothing settled but that the numbers are in range.
     pub fn nothing() -> Settled
         ensures { Clear result }
     {
@@ -85,7 +87,7 @@ impl Settled {
         true
     }
 
-    // Settles the node at i, if it needs no guess: an `and` is its children, which follow; an `or` waits. The node to go on at.
+    // Settles the node at i, if it needs no guess: an `and` is its children, which follow; an `or` waits. Some: the node to go on at.
     fn take(&mut self, ns: &[Node], i: usize) -> Option<usize>
         requires { i < question_room }
         ensures { Takes (node_at ns.now) i self.old result self.new }
@@ -137,7 +139,7 @@ impl Settled {
         numbers
     }
 
-    // One child of each `or` that waits. `left` falls with each guess and never runs out.
+    // One child of each `or` that waits made true. `left` falls with each guess and never runs out.
     #[cycle(attempt_guess)]
     pub fn guess(&self, ns: &[Node], left: usize) -> Option<Found>
         ensures { Guesses (node_at ns.now) self.now left result }

@@ -16,7 +16,7 @@ pub guess-returns-then-left-eq0 : goal.guess-returns-then-left-eq0
 guess-returns-then-left-eq0 t c = guessing.guess_late _ _ _ c.if-self-eq0.false c.if-left-eq0.true
 
 pub guess-loop-init : goal.guess-loop-init
-guess-loop-init t c = guessing.guess_begun _ _ _ c.if-self-eq0.false _ _ (omega arith) c.from-top.ensures (omega (arith, c.count_at-end.ensures))
+guess-loop-init t c = guessing.guess_begun _ _ _ c.if-self-eq0.false _ _ (omega arith) c.from-top.ensures (omega arith)
 
 pub guess-returns-then-to-gt-QUESTION_ROOM : goal.guess-returns-then-to-gt-QUESTION_ROOM
 guess-returns-then-to-gt-QUESTION_ROOM t c =
