@@ -70,7 +70,8 @@ module _ (n : ℕ → Node) (i left : ℕ) (x : Option Cut) where
         let p = at_join n i t every k s e l in
         let size : nodes t ≡ nodes_all p.ts + 1 = ap nodes p.tree in
         let found = K.is p.ts p.laid p.many (omega arith) in
-        rw p.tree (S.is (fold_all (cut_all p.ts x) (join_of every)) (shifted (fold_all (cut_all p.ts x) (join_of every)) kept K.small found.0), found.1);
+        let rest : Left = fold_all (cut_all p.ts x) (join_of every) in
+        rw p.tree (S.is rest (shifted rest kept K.small found.0), found.1);
   }
     where
       shifted : (l : Left) (kids : Option Kept) → size_kept kids ≤ left - 1 → Leaves l o₀ 0 kids → Leaves l o₁ 1 kids
