@@ -2,15 +2,17 @@
 // answers, or where it is not understood. A heading, which begins with `#`, is printed as it is.
 #![tactic(auto)]
 
+mod failure;
 mod find_line;
 mod judge_line;
 mod trim_line;
 
+use failure::Failure;
 use std::io;
 use std::io::Write;
 use typed::input::read_full;
-use typed::print::{print, print_stuck};
-use typed::text::{MOST_BYTES, Read, is_heading, line_end, read_tree, word_end};
+use typed::print::print;
+use typed::text::{Line, MOST_BYTES, Stuck};
 
 // Room for all the lines.
 const MOST_TEXT: usize = 262144;
@@ -20,76 +22,45 @@ enum Verb {
     Trim,
     Judge,
     Find,
-    Unknown,
 }
 
-fn same(a: &[u8], b: &[u8]) -> bool {
-    if a.len() != b.len() {
-        return false;
+fn verb_of(word: &[u8]) -> Option<Verb> {
+    match word {
+        b"trim" => Some(Verb::Trim),
+        b"judge" => Some(Verb::Judge),
+        b"find" => Some(Verb::Find),
+        _ => None,
     }
-    for i in 0..a.len() {
-        if a[i] != b[i] {
-            return false;
-        }
-    }
-    true
 }
 
-fn verb_of(word: &[u8]) -> Verb {
-    if same(word, b"trim") {
-        return Verb::Trim;
-    }
-    if same(word, b"judge") {
-        return Verb::Judge;
-    }
-    if same(word, b"find") {
-        return Verb::Find;
-    }
-    Verb::Unknown
-}
-
-// From where the condition's bytes end in the line.
-fn call(out: &mut impl Write, verb: Verb, line: &[u8], at: usize, tree: &[u8]) -> io::Result<()> {
+fn answer(out: &mut impl Write, line: &[u8]) -> Result<(), Failure> {
+    let (word, mut line) = Line::first_word(line);
+    let verb = verb_of(word).ok_or(Stuck { at: 0 })?;
+    let mut room = [0; MOST_BYTES];
+    let tree = line.tree(&mut room)?;
     match verb {
-        Verb::Trim => trim_line::answer(out, line, at, tree),
-        Verb::Judge => judge_line::answer(out, line, at, tree),
-        Verb::Find => find_line::answer(out, line, at, tree),
-        Verb::Unknown => print_stuck(out, 0),
-    }
-}
-
-fn answer_verb(out: &mut impl Write, verb: Verb, line: &[u8], start: usize) -> io::Result<()> {
-    let mut tree = [0u8; MOST_BYTES];
-    match read_tree(line, start, &mut tree) {
-        Read::Value(n, next) => call(out, verb, line, next, &tree[..n]),
-        Read::Stuck(place) => print_stuck(out, place),
-    }
-}
-
-fn answer(out: &mut impl Write, line: &[u8]) -> io::Result<()> {
-    let end = word_end(line);
-    let verb = verb_of(&line[..end]);
-    match verb {
-        Verb::Unknown => print_stuck(out, 0),
-        _ => answer_verb(out, verb, line, end),
+        Verb::Trim => trim_line::answer(out, line, tree),
+        Verb::Judge => judge_line::answer(out, line, tree),
+        Verb::Find => find_line::answer(out, line, tree),
     }
 }
 
 fn answer_line(out: &mut impl Write, line: &[u8]) -> io::Result<()> {
     print(out, line)?;
-    if !is_heading(line) {
+    if !line.starts_with(b"#") {
         print(out, b" => ")?;
-        answer(out, line)?;
+        match answer(out, line) {
+            Ok(()) => {}
+            Err(Failure::Stuck(stuck)) => write!(out, "{stuck}")?,
+            Err(Failure::Output(why)) => return Err(why),
+        }
     }
     print(out, b"\n")
 }
 
 fn answer_lines(out: &mut impl Write, text: &[u8]) -> io::Result<()> {
-    let mut start = 0;
-    while start < text.len() {
-        let end = line_end(text, start);
-        answer_line(out, &text[start..end])?;
-        start = end + 1;
+    for line in text.split_inclusive(|c| *c == b'\n') {
+        answer_line(out, line.strip_suffix(b"\n").unwrap_or(line))?;
     }
     Ok(())
 }

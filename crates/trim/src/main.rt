@@ -5,8 +5,7 @@ use condition::LONGEST_TREE;
 use std::io;
 use std::io::Write;
 use typed::input::read_full;
-use typed::print::print;
-use typed::result::{print_bytes, print_trimmed};
+use typed::result::{Hex, Told};
 
 // "The program takes the first 256 bytes of standard input, ration 600, 190 bytes of output room."
 const TAKEN: usize = 256;
@@ -17,10 +16,8 @@ const RATION: u32 = 600;
 fn trim(out: &mut impl Write, tree: &[u8]) -> io::Result<()> {
     let mut room = [0u8; LONGEST_TREE];
     let trimmed = travelring::trim(tree, RATION, &mut room);
-    print_trimmed(out, trimmed.told())?;
-    print(out, b"\n")?;
-    print_bytes(out, &room, trimmed.length())?;
-    print(out, b"\n")
+    let result = Hex(&room[..trimmed.length()]);
+    write!(out, "{}\n{result}\n", Told(trimmed.told()))
 }
 
 fn main(rt: HostRuntime) -> io::Result<()> {

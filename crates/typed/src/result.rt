@@ -1,32 +1,40 @@
-// Prints what trim answered, and the tree it wrote.
-ghost use Rattle.std.specs.Prelude.{◌≤◌, length};
+// What trim answered, and the tree it wrote, as they are printed.
+ghost use Rattle.std.specs.Prelude.{◌++◌, Some, codes};
+ghost use Rattle.std.specs.Fmt.{decimal};
 
-use crate::print::{print, print_answer};
-use std::io;
-use std::io::Write;
+use std::fmt;
 use travelring::Trimming;
 
 // Answer, place, questions and ends.
-pub fn print_trimmed(out: &mut impl Write, told: Trimming) -> io::Result<()> {
-    print_answer(out, told.answer, told.place)?;
-    let questions = told.questions;
-    let ends = told.ends;
-    write!(out, " {questions} {ends}")
-}
+#[derive(Clone, Copy)]
+pub struct Told(pub Trimming);
 
-fn print_byte(out: &mut impl Write, b: u8) -> io::Result<()> {
-    write!(out, "{b:02x}")
-}
+impl fmt::Display for Told {
+    ghost output = { λ told. Some (decimal told.0.answer ++ codes " " ++ decimal told.0.place ++ codes " "
+        ++ decimal told.0.questions ++ codes " " ++ decimal told.0.ends) };
 
-// The first n bytes in hex, a space between them.
-pub fn print_bytes(out: &mut impl Write, bytes: &[u8], n: usize) -> io::Result<()>
-    requires { n ≤ length bytes.now }
-{
-    for i in 0..n {
-        if 0 < i {
-            print(out, b" ")?;
-        }
-        print_byte(out, bytes[i])?;
+    fn fmt<W: fmt::Write>(&self, f: &mut fmt::Formatter<W>) -> fmt::Result {
+        let told = self.0;
+        write!(
+            f,
+            "{} {} {} {}",
+            told.answer, told.place, told.questions, told.ends
+        )
     }
-    Ok(())
+}
+
+// Bytes in hex, a space between them.
+#[derive(Clone, Copy)]
+pub struct Hex<'a>(pub &'a [u8]);
+
+impl fmt::Display for Hex<'_> {
+    fn fmt<W: fmt::Write>(&self, f: &mut fmt::Formatter<W>) -> fmt::Result {
+        for (i, byte) in self.0.iter().enumerate() {
+            if 0 < i {
+                write!(f, " ")?;
+            }
+            write!(f, "{byte:02x}")?;
+        }
+        Ok(())
+    }
 }

@@ -1,2 +1,0 @@
--- What the contracts of reading a line cite.
-pub mod Most
