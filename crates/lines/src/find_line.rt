@@ -4,7 +4,7 @@ use crate::failure::Failure;
 use condition::{ASSIGNED, FARTHEST, Whole};
 use std::io;
 use std::io::Write;
-use travelring::Found;
+use travelring::{Finding, Judgement};
 use typed::print::print;
 use typed::text::Line;
 
@@ -12,7 +12,7 @@ use typed::text::Line;
 const PRESET: Whole = 7;
 
 fn print_shown(out: &mut impl Write, tree: &[u8], bits: u32, numbers: &[Whole]) -> io::Result<()> {
-    let judged = travelring::judge(tree, bits, numbers).told();
+    let judged = Judgement::from(travelring::judge(tree, bits, numbers));
     write!(out, " judged {}", judged.value)?;
     // Document 01 bounds each number that is written.
     if !numbers.iter().all(|n| n.unsigned_abs() <= FARTHEST) {
@@ -24,9 +24,9 @@ fn print_shown(out: &mut impl Write, tree: &[u8], bits: u32, numbers: &[Whole]) 
 fn find(out: &mut impl Write, tree: &[u8]) -> io::Result<()> {
     let mut numbers = [PRESET; ASSIGNED];
     let found = travelring::find(tree, &mut numbers);
-    let told = found.told();
+    let told = Finding::from(found);
     write!(out, "{} {}", told.answer, told.place)?;
-    if let Found::Shown(bits) = found {
+    if let Ok(bits) = found {
         return print_shown(out, tree, bits, &numbers);
     }
     if numbers != [PRESET; ASSIGNED] {

@@ -2,6 +2,7 @@
 // stands for as many zeros as are missing.
 use crate::failure::Failure;
 use std::io::Write;
+use travelring::Judgement;
 use typed::text::{Line, MOST_NUMBERS};
 
 // From a line's boolean bits on.
@@ -9,7 +10,7 @@ pub fn answer(out: &mut impl Write, mut line: Line<'_>, tree: &[u8]) -> Result<(
     let flags = line.part(u32::MAX)?;
     let mut room = [0; MOST_NUMBERS];
     let numbers = line.numbers(&mut room)?;
-    let told = travelring::judge(tree, flags, numbers).told();
+    let told = Judgement::from(travelring::judge(tree, flags, numbers));
     write!(out, "{} {} {}", told.answer, told.place, told.value)?;
     Ok(())
 }

@@ -4,6 +4,7 @@ use crate::failure::Failure;
 use condition::LONGEST_TREE;
 use std::io;
 use std::io::Write;
+use travelring::{Trimming, bytes_written};
 use typed::print::print;
 use typed::result::{Hex, Told};
 use typed::text::Line;
@@ -14,8 +15,8 @@ const PRESET: u8 = 0xa5;
 // Trims into the lent room, which is preset.
 fn trim(out: &mut impl Write, tree: &[u8], ration: u32, room: &mut [u8]) -> io::Result<()> {
     let trimmed = travelring::trim(tree, ration, room);
-    write!(out, "{}", Told(trimmed.told()))?;
-    let (bytes, beyond) = room.split_at(trimmed.length());
+    write!(out, "{}", Told(Trimming::from(trimmed)))?;
+    let (bytes, beyond) = room.split_at(bytes_written(trimmed));
     if !bytes.is_empty() {
         write!(out, " {}", Hex(bytes))?;
     }

@@ -4,6 +4,7 @@
 use condition::LONGEST_TREE;
 use std::io;
 use std::io::Write;
+use travelring::{Trimming, bytes_written};
 use typed::input::read_full;
 use typed::result::{Hex, Told};
 
@@ -16,8 +17,8 @@ const RATION: u32 = 600;
 fn trim(out: &mut impl Write, tree: &[u8]) -> io::Result<()> {
     let mut room = [0u8; LONGEST_TREE];
     let trimmed = travelring::trim(tree, RATION, &mut room);
-    let result = Hex(&room[..trimmed.length()]);
-    write!(out, "{}\n{result}\n", Told(trimmed.told()))
+    let result = Hex(&room[..bytes_written(trimmed)]);
+    write!(out, "{}\n{result}\n", Told(Trimming::from(trimmed)))
 }
 
 fn main(rt: HostRuntime) -> io::Result<()> {
