@@ -9,9 +9,9 @@ use mathlib.Core.Bool.{Bool, true, false, not}
 use native.Mathlib.Omega.{arith}
 use native.Mathlib.Numerals.{add-one}
 use lib.Dec.{eqb, leb}
-use lib.IntN.{ℤ}
-use lib.ListN.{length, get_or, replicate, length-replicate, get_or-replicate, get_or-eq_default}
+use lib.ListN.{get_or, replicate}
 use borrow.Table.Steps.{cases}
+use Rattle.std.proofs.lemmas.Grind.{common_steps}
 use borrow.Author.Tests.{eqb-true, eqb-false, leb-true, leb-false, eq-eqb, ne_eqb, le-leb, lt-leb}
 use Rattle.condition.specs.Limits.{tree_room}
 use Rattle.condition.specs.Meaning.{Tree, plain, Within}
@@ -20,18 +20,18 @@ use Rattle.condition.specs.Critical.{put}
 use Rattle.condition.specs.Deciding.{sat}
 use Rattle.condition.specs.Sweep.{Stage, stage, start, over, on, run, answer, next, sweep, trimmed}
 use Rattle.condition.proofs.Folding.{fold_within}
-use Rattle.condition.proofs.Putting.{split, cut_within}
+use Rattle.condition.proofs.Putting.{cut_within}
 use Rattle.condition.proofs.Run.{Reached, advance, stopped}
 use Rattle.nodes.specs.declared.Node.{Node}
 use Rattle.nodes.specs.Words.{node_at}
 use Rattle.nodes.specs.Laid.{nodes, Laid}
 use Rattle.asking.specs.Asked.{Lives}
-use Rattle.keeping.specs.Kept.{questions, numbered, Known, Room, Replies}
+use Rattle.keeping.specs.Kept.{questions, numbered, Known, Replies}
 use Rattle.folding.specs.Folded.{Folded}
 use Rattle.sweeping.specs.Swept.{Sweeps}
 
 -- the machine that began with t is, after `asked` steps, at question q of the tree that the nodes hold
-pub record At (t : Tree) (tree : List ℕ) (size end : ℕ) (known : List ℕ) (q asked : ℕ) : Type 0 where
+pub record At (t : Tree) (tree : List ℕ) (size end : ℕ) (known : List Bool) (q asked : ℕ) : Type 0 where
   pub present : Tree
   pub reached : Reached over (next sat) asked (start (fold t)) (numbered present q)
   pub laid : Laid present (node_at tree) 0
@@ -41,10 +41,7 @@ pub record At (t : Tree) (tree : List ℕ) (size end : ℕ) (known : List ℕ) (
   pub ends : end ≡ 2 * live present
   pub knows : Known present known
 
-pub record Goes (n : ℕ → Node) (nodes₀ ration : ℕ) (tree : List ℕ) (size end : ℕ) (bits : List ℕ) (numbers : List ℤ) (known : List ℕ)
-    (many q asked : ℕ) : Type 0 where
-  pub long : length tree ≡ tree_room
-  pub room : Room bits numbers known many
+pub record Goes (n : ℕ → Node) (nodes₀ ration : ℕ) (tree : List ℕ) (size end : ℕ) (known : List Bool) (q asked : ℕ) : Type 0 where
   pub near : end ≤ questions
   pub within : asked ≤ ration
   pub stands : (t : Tree) → Laid t n 0 → nodes t ≡ nodes₀ → nodes₀ ≤ tree_room → Within t → At t tree size end known q asked
@@ -72,19 +69,17 @@ on_is u q =
 
 -- ---- the start, and after a cut: nothing is known
 
-zeros : (k q x : ℕ) → get_or (replicate k 0) q 0 ≡ x → x ≡ 0
-zeros k q x e = split q k
-    (λ l s. sym e ∙ get_or-replicate k q 0 0 l)
-    (λ l s. sym e ∙ get_or-eq_default (replicate k 0) 0 (omega (arith, length-replicate {A = ℕ} k 0)))
+blank : (k q : ℕ) → get_or (replicate k false) q false ≡ false
+blank k q = grind (arith, common_steps)
 
-pub nothing : (t : Tree) (k : ℕ) → Known t (replicate k 0)
-nothing t k = record { no = λ q h one. absurd (omega (arith, zeros k q 1 one)) }
+nothing : (t : Tree) (k : ℕ) → Known t (replicate k false)
+nothing t k = record { no = λ q h one. let e = blank k q in cc }
 
 -- ---- one step of the machine
 
-module _ {n : ℕ → Node} {k ration : ℕ} {tree : List ℕ} {size end : ℕ} {bits : List ℕ} {numbers : List ℤ} {known : List ℕ} {many q asked : ℕ}
-    (goes : Goes n k ration tree size end bits numbers known many q asked) (less : asked < ration) (more : q < end) {v : Bool}
-    {many' : ℕ} {known' : List ℕ} (replies : Replies (node_at tree) size q known v many' known') where
+module _ {n : ℕ → Node} {k ration : ℕ} {tree : List ℕ} {size end : ℕ} {known : List Bool} {q asked : ℕ}
+    (goes : Goes n k ration tree size end known q asked) (less : asked < ration) (more : q < end) {v : Bool}
+    {known' : List Bool} (replies : Replies (node_at tree) size q known v known') where
   right : {t : Tree} (a : At t tree size end known q asked) → (v ≡ answer sat (numbered a.present q)) × Known a.present known'
   right a = replies.right a.present a.laid a.sized (omega (arith, a.few)) a.limits (omega (arith, a.ends)) a.knows
 
@@ -95,12 +90,9 @@ module _ {n : ℕ → Node} {k ration : ℕ} {tree : List ℕ} {size end : ℕ} 
       (lt-leb (live a.present) (q / 2) (omega (arith, a.ends))))
 
   -- a no
-  pub goes_on : {bits' : List ℕ} {numbers' : List ℤ} → v ≡ false → Room bits' numbers' known' many' →
-      Goes n k ration tree size end bits' numbers' known' many' (q + 1) (asked + 1)
+  pub goes_on : v ≡ false → Goes n k ration tree size end known' (q + 1) (asked + 1)
   unfolding next
-  goes_on e held = record {
-    long = goes.long;
-    room = held;
+  goes_on e = record {
     near = goes.near;
     within = omega arith;
     stands = λ t l same few limits.
@@ -120,9 +112,7 @@ module _ {n : ℕ → Node} {k ration : ℕ} {tree : List ℕ} {size end : ℕ} 
   }
 
 -- a tree just folded, at its first question
-module _ {tree : List ℕ} {size room r end : ℕ} {bits : List ℕ} {numbers : List ℤ} {known : List ℕ} {many : ℕ} (long : length tree ≡ tree_room)
-    (wide : tree_room ≤ room) (lives : Lives (node_at tree) size r) (twice : end ≡ 2 * r) (blank : (t : Tree) → Known t known)
-    (held : Room bits numbers known many) where
+module _ {tree : List ℕ} {size room r end : ℕ} {known : List Bool} (wide : tree_room ≤ room) (lives : Lives (node_at tree) size r) (twice : end ≡ 2 * r) (unknown : known ≡ replicate questions false) where
   anew : {t : Tree} (u : Tree) (asked : ℕ) → Reached over (next sat) asked (start (fold t)) (start u) →
       Laid u (node_at tree) 0 × (size ≡ nodes u) → size ≤ tree_room → Within u → At t tree size end known 0 asked
   anew u asked reached g few limits = record {
@@ -133,15 +123,13 @@ module _ {tree : List ℕ} {size room r end : ℕ} {bits : List ℕ} {numbers : 
     few = few;
     limits = limits;
     ends = twice ∙ ap (λ x. 2 * x) (lives.right u g.0 (sym g.1) (omega arith));
-    knows = blank u;
+    knows = rw unknown (nothing u questions);
   }
 
   pub begins : {n : ℕ → Node} {k ration : ℕ} → Folded n k 0 false room (node_at tree) size →
-      Goes n k ration tree size end bits numbers known many 0 0
+      Goes n k ration tree size end known 0 0
   unfolding run
   begins f = record {
-    long = long;
-    room = held;
     near = omega (arith, lives.few);
     within = omega arith;
     stands = λ t l e few limits.
@@ -149,16 +137,13 @@ module _ {tree : List ℕ} {size room r end : ℕ} {bits : List ℕ} {numbers : 
   }
 
   -- a yes
-  pub cuts : {n : ℕ → Node} {k ration : ℕ} {old : List ℕ} {size₀ end₀ : ℕ} {bits₀ : List ℕ} {numbers₀ : List ℤ}
-      {known₀ known₁ : List ℕ} {many₀ q asked : ℕ} →
-      Goes n k ration old size₀ end₀ bits₀ numbers₀ known₀ many₀ q asked → asked < ration → q < end₀ →
-      {v : Bool} → Replies (node_at old) size₀ q known₀ v many known₁ → v ≡ true →
+  pub cuts : {n : ℕ → Node} {k ration : ℕ} {old : List ℕ} {size₀ end₀ : ℕ} {known₀ known₁ : List Bool} {q asked : ℕ} →
+      Goes n k ration old size₀ end₀ known₀ q asked → asked < ration → q < end₀ →
+      {v : Bool} → Replies (node_at old) size₀ q known₀ v known₁ → v ≡ true →
       Folded (node_at old) size₀ (q / 2 + 1) (eqb (q % 2) 0) room (node_at tree) size →
-      Goes n k ration tree size end bits numbers known many 0 (asked + 1)
+      Goes n k ration tree size end known 0 (asked + 1)
   unfolding next
   cuts {q = q} {asked = asked} goes less more replies e f = record {
-    long = long;
-    room = held;
     near = omega (arith, lives.few);
     within = omega arith;
     stands = λ t l same few limits.
@@ -174,8 +159,8 @@ module _ {tree : List ℕ} {size room r end : ℕ} {bits : List ℕ} {numbers : 
 
 -- ---- the end: no question is left, or the ration is used up
 
-module _ {n : ℕ → Node} {k ration : ℕ} {tree : List ℕ} {size end : ℕ} {bits : List ℕ} {numbers : List ℤ} {known : List ℕ} {many q asked : ℕ}
-    (goes : Goes n k ration tree size end bits numbers known many q asked) where
+module _ {n : ℕ → Node} {k ration : ℕ} {tree : List ℕ} {size end : ℕ} {known : List Bool} {q asked : ℕ}
+    (goes : Goes n k ration tree size end known q asked) where
   over_is : {t : Tree} (a : At t tree size end known q asked) → leb end q ≡ over (numbered a.present q)
   over_is a = cases (leb end q)
       (λ e. e ∙ sym (le-leb (live a.present) (q / 2) (let h = leb-true end q e in omega (arith, a.ends))))

@@ -6,8 +6,7 @@
 ghost use Rattle.nodes.specs.Words.{node_at};
 ghost use Rattle.sweeping.specs.Swept.{Sweeps};
 
-use condition::{TREE_ROOM, Whole};
-use keeping::{KEPT, KEPT_NUMBERS, QUESTIONS, answer};
+use condition::TREE_ROOM;
 
 // The tree reached, in its first `size` nodes, the questions asked, and whether the work is finished.
 #[derive(Clone, Copy)]
@@ -25,21 +24,18 @@ pub fn sweep(ns: &[u64], n: usize, ration: u32) -> Swept
     let mut tree = [0u64; TREE_ROOM];
     let mut size = folding::fold(ns, n, 0, false, &mut tree);
     let mut end = 2 * asking::live(&tree, size);
-    let mut bits = [0u32; KEPT];
-    let mut numbers: [Whole; KEPT_NUMBERS] = [0; KEPT_NUMBERS];
-    let mut known = [0u8; QUESTIONS];
-    let mut reply = keeping::none();
+    let mut kept = keeping::none();
     let mut q: usize = 0;
     let mut asked: u32 = 0;
+    // No `for`: after a cut q starts again, and how many were asked outlives the loop.
     while asked < ration && q < end {
-        reply = answer(&tree, size, q, &mut bits, &mut numbers, &mut known, reply);
+        let yes = kept.answer(&tree, size, q);
         asked += 1;
-        if reply.yes {
+        if yes {
             let before = tree;
             size = folding::fold(&before, size, q / 2 + 1, q % 2 == 0, &mut tree);
             end = 2 * asking::live(&tree, size);
-            known = [0u8; QUESTIONS];
-            reply.tried = 0;
+            kept.another_tree();
             q = 0;
             continue;
         }
