@@ -83,22 +83,22 @@ fn recall(ns: &[u64], n: usize, q: usize, found: &[Found], known: &mut [bool; QU
     found.len()
 }
 
-// Before the first question nothing is kept.
-pub fn none() -> Kept
-    ensures { result ≡ replicate questions false }
-{
-    Kept {
-        found: [Found {
-            flags: 0,
-            numbers: [0; ASSIGNED],
-        }; KEPT],
-        many: 0,
-        tried: 0,
-        known: [false; QUESTIONS],
-    }
-}
-
 impl Kept {
+    // Before the first question nothing is kept.
+    pub fn none() -> Self
+        ensures { result ≡ replicate questions false }
+    {
+        Kept {
+            found: [Found {
+                flags: 0,
+                numbers: [0; ASSIGNED],
+            }; KEPT],
+            many: 0,
+            tried: 0,
+            known: [false; QUESTIONS],
+        }
+    }
+
     // Another tree: nothing is known of it, and it has not been walked under any of the assignments, which stay.
     pub fn another_tree(&mut self)
         ensures { self.new ≡ replicate questions false }

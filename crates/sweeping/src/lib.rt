@@ -7,6 +7,7 @@ ghost use Rattle.nodes.specs.Words.{node_at};
 ghost use Rattle.sweeping.specs.Swept.{Sweeps};
 
 use condition::TREE_ROOM;
+use keeping::Kept;
 
 // The tree reached, in its first `size` nodes, the questions asked, and whether the work is finished.
 #[derive(Clone, Copy)]
@@ -24,7 +25,7 @@ pub fn sweep(ns: &[u64], n: usize, ration: u32) -> Swept
     let mut tree = [0u64; TREE_ROOM];
     let mut size = folding::fold(ns, n, 0, false, &mut tree);
     let mut end = 2 * asking::live(&tree, size);
-    let mut kept = keeping::none();
+    let mut kept = Kept::none();
     let mut q: usize = 0;
     let mut asked: u32 = 0;
     // No `for`: after a cut q starts again, and how many were asked outlives the loop.
