@@ -18,7 +18,7 @@ use Rattle.condition.proofs.Negation.{negate_twice}
 use Rattle.condition.proofs.Depth.{not_deeper}
 use Rattle.condition.proofs.Deciding.{sat_same}
 use Rattle.nodes.specs.declared.Node.{Node}
-use Rattle.nodes.specs.Words.{node_at}
+use Rattle.nodes.specs.Memory.{node_at}
 use Rattle.asking.specs.Asked.{asked, question as written, Asks}
 use Rattle.asking.proofs.Means.{question_holds, question_named}
 use Rattle.settling.specs.declared.Verdict.{Verdict}

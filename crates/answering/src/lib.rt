@@ -2,7 +2,7 @@
 // answer is yes: the critical constraint implies the end, or its negation. Else it is no, and the assignment is handed out.
 #![tactic(auto)]
 
-ghost use Rattle.nodes.specs.Words.{node_at};
+ghost use Rattle.nodes.specs.Memory.{node_at};
 ghost use Rattle.answering.specs.Answered.{Answers};
 
 use condition::{QUESTION_ROOM, Whole};

@@ -9,7 +9,7 @@ use Rattle.condition.specs.Meaning.{End, Tree, plain, leaf, join, Forest, none, 
 use Rattle.condition.specs.Folding.{live, live_all}
 use Rattle.nodes.specs.declared.Node.{Node}
 use Rattle.nodes.specs.declared.Node.TheVariants as node
-use Rattle.nodes.specs.Words.{node_at}
+use Rattle.nodes.specs.Memory.{node_at}
 use Rattle.nodes.specs.Laid.{EndIs, nodes, nodes_all, Laid, LaidAll}
 use Rattle.asking.specs.Asked.{one_end, ends_from, Lives}
 

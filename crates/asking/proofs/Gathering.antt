@@ -13,9 +13,9 @@ use Rattle.condition.specs.Depth.{deep, deep_all}
 use Rattle.condition.specs.Folding.{live, live_all}
 use Rattle.nodes.specs.declared.Node.{Node}
 use Rattle.nodes.specs.declared.Node.TheVariants as node
-use Rattle.nodes.specs.Words.{node_of, node_at, word_of}
+use Rattle.nodes.specs.Memory.{node_of, node_at, word_of}
 use Rattle.nodes.specs.Laid.{join_of, flag_end, bound_end, nodes, nodes_all, Laid, LaidAll}
-use Rattle.nodes.proofs.Words.{put_here, put_other}
+use Rattle.nodes.proofs.Memory.{put_here, put_other}
 use Rattle.nodes.proofs.Laws.{some_node, tell, at_plain, at_flag, at_bound, Joined, at_join, at_none, move_all}
 use Rattle.asking.specs.Asked.{turned, asked, star_all, onto, gathered, gathered_in}
 use Rattle.asking.specs.Asked.{Stars, Among, Sought, Siblings, Stand, Gathers, Asks}

@@ -9,7 +9,7 @@ use borrow.Rule.Slice.PartMut.{put_mid}
 use Rattle.condition.specs.Meaning.{Tree, plain, leaf, join, Forest, none, more}
 use Rattle.condition.specs.Depth.{deep, deep_all}
 use Rattle.nodes.specs.declared.Node.{Node}
-use Rattle.nodes.specs.Words.{node_of, node_at, size_of, opposed}
+use Rattle.nodes.specs.Memory.{node_of, node_at, size_of, opposed}
 use Rattle.nodes.specs.Laid.{nodes, nodes_all, Laid, LaidAll}
 use Rattle.nodes.proofs.Laws.{sized}
 use Rattle.condition.proofs.Putting.{split}

@@ -7,7 +7,7 @@ use lib.ListN.{length, get_or, set, take, length-take, get_or-append}
 use lib.Seq.{get_or-append-add, get_or-take, get_or-set_same}
 use borrow.Rule.Slice.PartMut.{put_mid, post_of}
 use Rattle.nodes.specs.declared.Node.{Node}
-use Rattle.nodes.specs.Words.{node_at, node_of}
+use Rattle.nodes.specs.Memory.{node_at, node_of}
 
 part_long : (d : ℕ) (xs : List ℕ) → d ≤ length xs → length (take d xs) ≡ d
 part_long d xs h = simp length-take (omega arith)

@@ -6,7 +6,7 @@ use native.Mathlib.Omega.{arith}
 use Rattle.condition.specs.Meaning.{Forest, none, more}
 use Rattle.condition.specs.Folding.{live, live_all}
 use Rattle.nodes.specs.declared.Node.{Node}
-use Rattle.nodes.specs.Words.{size_of}
+use Rattle.nodes.specs.Memory.{size_of}
 use Rattle.nodes.specs.Laid.{nodes, nodes_all, Laid, LaidAll}
 use Rattle.nodes.proofs.Laws.{some_node, sized}
 use Rattle.asking.specs.Asked.{ends_from, onto, Among, Sought}

@@ -11,7 +11,7 @@ use lib.Seq.{get_or-set_same, get_or-set_other}
 use Rattle.condition.specs.Meaning.{End, opposite, Join, all, any, other, Tree, plain, leaf, join, Forest, none, more, count, negate, negate_all}
 use Rattle.nodes.specs.declared.Node.{Node}
 use Rattle.nodes.specs.declared.Node.TheVariants as node
-use Rattle.nodes.specs.Words.{node_of, node_at, opposed}
+use Rattle.nodes.specs.Memory.{node_of, node_at, opposed}
 use Rattle.nodes.specs.Laid.{is_all, flag_end, bound_end, EndIs, nodes, nodes_all, Laid, LaidAll}
 use Rattle.nodes.proofs.Laws.{move_all}
 use Rattle.asking.specs.Asked.{turned, star_all, NegatesAll, Stars}

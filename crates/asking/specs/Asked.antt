@@ -8,7 +8,7 @@ use Rattle.condition.specs.Folding.{live, live_all}
 use Rattle.condition.specs.Critical.{star}
 use Rattle.nodes.specs.declared.Node.{Node}
 use Rattle.nodes.specs.declared.Node.TheVariants as node
-use Rattle.nodes.specs.Words.{node_at, opposed}
+use Rattle.nodes.specs.Memory.{node_at, opposed}
 use Rattle.nodes.specs.Laid.{join_of, nodes, nodes_all, Laid, LaidAll}
 
 -- ---- node by node

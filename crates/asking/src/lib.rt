@@ -5,7 +5,7 @@
 
 ghost use Rattle.std.specs.Prelude.{◌≡◌, ℕ, ◌+◌, ◌≤◌, ◌<◌, length, get_or};
 ghost use Rattle.condition.specs.Limits.{question_room};
-ghost use Rattle.nodes.specs.Words.{node_of, node_at};
+ghost use Rattle.nodes.specs.Memory.{node_of, node_at};
 ghost use Rattle.asking.specs.Asked.{turned, one_end, ends_from, Negates, NegatesAll, Stars, Sought, Siblings, Gathers, Asks, Lives};
 
 use condition::{DEEPEST, QUESTION_ROOM};

@@ -11,9 +11,9 @@ use Rattle.condition.specs.Meaning.{unit, plain, none, more}
 use Rattle.condition.specs.Folding.{Left, decided, these, close}
 use Rattle.nodes.specs.declared.Node.{Node}
 use Rattle.nodes.specs.declared.Node.TheVariants as node
-use Rattle.nodes.specs.Words.{node_of, word_of, node_at, Fits}
+use Rattle.nodes.specs.Memory.{node_of, word_of, node_at, Fits}
 use Rattle.nodes.specs.Laid.{join_of, nodes, Laid}
-use Rattle.nodes.proofs.Words.{put_here, put_other}
+use Rattle.nodes.proofs.Memory.{put_here, put_other}
 use Rattle.nodes.proofs.Laws.{is_all_join_of, tell, move, move_all}
 use Rattle.folding.specs.declared.Kid.{Kid}
 use Rattle.folding.specs.declared.Kids.{Kids}

@@ -11,9 +11,9 @@ use Rattle.condition.specs.Meaning.{End, Join, Tree, plain, leaf, join, Forest, 
 use Rattle.condition.specs.Folding.{Left, decided, these, keep, drop, fold, fold_all, live, live_all}
 use Rattle.nodes.specs.declared.Node.{Node}
 use Rattle.nodes.specs.declared.Node.TheVariants as node
-use Rattle.nodes.specs.Words.{word_of, node_at, size_of, Fits}
+use Rattle.nodes.specs.Memory.{word_of, node_at, size_of, Fits}
 use Rattle.nodes.specs.Laid.{join_of, flag_end, bound_end, EndIs, nodes, nodes_all, Laid, LaidAll}
-use Rattle.nodes.proofs.Words.{read_fits}
+use Rattle.nodes.proofs.Memory.{read_fits}
 use Rattle.nodes.proofs.Laws.{tell, some_node, sized, at_plain, at_flag, at_bound, at_join, at_none, at_more, move}
 use Rattle.folding.specs.declared.Kid.{Kid}
 use Rattle.folding.specs.declared.Kids.{Kids}

@@ -4,7 +4,7 @@ use Rattle.condition.specs.Limits.{tree_room}
 use Rattle.condition.specs.Meaning.{End, Tree, plain, leaf, join, Forest, none, more, count}
 use Rattle.condition.specs.Folding.{Left, decided, these, close, fold, fold_all, live, live_all}
 use Rattle.nodes.specs.declared.Node.{Node}
-use Rattle.nodes.specs.Words.{node_at, Fits}
+use Rattle.nodes.specs.Memory.{node_at, Fits}
 use Rattle.nodes.specs.Laid.{join_of, EndIs, nodes, nodes_all, Laid, LaidAll}
 use Rattle.folding.specs.declared.Kid.{Kid}
 use Rattle.folding.specs.declared.Kids.{Kids}

@@ -4,7 +4,7 @@
 
 ghost use Rattle.std.specs.Prelude.{◌≡◌, cond, ◌+◌, ◌-◌, ◌≤◌, ◌<◌, length};
 ghost use Rattle.condition.specs.Limits.{tree_room};
-ghost use Rattle.nodes.specs.Words.{node_at};
+ghost use Rattle.nodes.specs.Memory.{node_at};
 ghost use Rattle.folding.specs.Folded.{Folded};
 ghost use Rattle.folding.specs.Parts.{Room, Slid, EndRight, ShutRight, NodeRight, ChildrenRight};
 

@@ -1,4 +1,3 @@
 -- Laws of judging.
-pub mod Signed
 pub mod Ends
 pub mod Walk

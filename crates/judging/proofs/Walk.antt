@@ -7,7 +7,7 @@ use native.Mathlib.Omega.{arith}
 use Rattle.condition.specs.Meaning.{Assignment, is, at_most, met, Join, joined, unit, holds, each}
 use Rattle.nodes.specs.declared.Node.{Node}
 use Rattle.nodes.specs.declared.Node.TheVariants as node
-use Rattle.nodes.specs.Words.{size_of}
+use Rattle.nodes.specs.Memory.{size_of}
 use Rattle.nodes.specs.Laid.{shifted, join_of, nodes, nodes_all, LaidAll}
 use Rattle.nodes.proofs.Laws.{some_node, sized, at_plain, at_flag, at_bound, at_join, at_none, at_more}
 use Rattle.judging.specs.Judged.{Judged, JudgedAll}

@@ -1,2 +1,3 @@
--- What the walk over a condition's nodes promises.
+-- An assignment as code holds it, and what the walk over a condition's nodes promises.
+pub mod Assigned
 pub mod Judged

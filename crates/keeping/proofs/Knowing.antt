@@ -4,6 +4,7 @@ use Prim.Native.Nat.{ℕ, zero, suc, ◌/◌, ◌%◌, ◌<◌}
 use mathlib.Core.Path.{◌≡◌, refl, sym, ap, ap₂, ◌∙◌}
 use mathlib.Core.Logic.{inl, inr}
 use mathlib.Core.List.{List}
+use Rattle.std.specs.Prelude.{Option, Some, None}
 use mathlib.Core.Bool.{Bool, true, false, not, cond}
 use native.Mathlib.Omega.{arith}
 use lib.Dec.{eqb}
@@ -17,18 +18,14 @@ use Rattle.condition.specs.Sweep.{stage, claim, question, answer}
 use Rattle.condition.proofs.Negation.{holds_negate}
 use Rattle.condition.proofs.Deciding.{sat_is}
 use Rattle.nodes.specs.declared.Node.{Node}
-use Rattle.turning.specs.Turned.{side, tells, Tells}
+use Rattle.turning.specs.Turned.{tells, Tells}
 use Rattle.keeping.specs.Kept.{Notes, Learns}
 
 -- ---- what is told is right
 
-sides : (c m b : Bool) → cond c (side m) 0 ≡ side b → (c ≡ true) × (m ≡ b)
-sides true true true e = (refl, refl)
-sides true true false e = absurd (omega arith)
-sides true false true e = absurd (omega arith)
-sides true false false e = (refl, refl)
-sides false m true e = absurd (omega arith)
-sides false m false e = absurd (omega arith)
+sides : (c m b : Bool) → cond c (Some m) None ≡ Some b → (c ≡ true) × (m ≡ b)
+sides true m b e = (refl, cc)
+sides false m b e = cc
 
 -- what is not claimed of the end holds where the end is on that side
 denied : (b : Bool) (e : End) (a : Assignment) → met e a ≡ b → holds (negate (claim b (leaf e))) a ≡ true
@@ -36,7 +33,7 @@ unfolding holds
 denied false e a h = holds_negate (leaf e) a ∙ ap not h
 denied true e a h = holds_negate (negate (leaf e)) a ∙ ap not (holds_negate (leaf e) a ∙ ap not h)
 
-told_no : (t : Tree) (i : ℕ) (a : Assignment) (b : Bool) → tells t i a ≡ side b → answer sat (stage t i b) ≡ false
+told_no : (t : Tree) (i : ℕ) (a : Assignment) (b : Bool) → tells t i a ≡ Some b → answer sat (stage t i b) ≡ false
 unfolding tells answer question holds
 told_no t i a b e =
     let h = sides (holds (critical t i) a) (met (end_at t i) a) b e in
@@ -46,23 +43,18 @@ told_no t i a b e =
 
 -- ---- the questions that marks answer
 
-odd_side : (r : ℕ) → r < 2 → suc r ≡ side (eqb r 1)
-odd_side zero h = refl
-odd_side (suc zero) h = refl
-odd_side (suc (suc r)) h = absurd (omega arith)
-
-pub learned : {n : ℕ → Node} {size : ℕ} {a : Assignment} {m marks : List ℕ} {known known' : List Bool} {ends : ℕ} → length m ≡ question_room →
-    Tells n size a m ends marks → Notes (take ends marks) known known' → Learns n size known known'
+pub learned : {n : ℕ → Node} {a : Assignment} {m marks : List (Option Bool)} {known known' : List Bool} {ends : ℕ} → length m ≡ question_room →
+    Tells n a m ends marks → Notes (take ends marks) known known' → Learns n known known'
 learned {a = a} {marks = marks} {ends = ends} wide t n =
     record {
-      right = λ u laid same near k.
-          let told = t.right u laid (omega arith) (omega arith) (omega arith) in
+      right = λ u laid near k.
+          let told = t.right u laid (omega arith) (omega arith) in
           record {
             no = λ q h one.
                 elim (n.from q one) [
                   | inl p ↦ k.no q h p
                   | inr p ↦ told_no u (q / 2) a (eqb (q % 2) 1)
-                      (sym (told.1 (q / 2) (omega arith)) ∙ sym (get_or-take ends marks (q / 2) 0 (omega arith)) ∙ p ∙ odd_side (q % 2) (omega arith))
+                      (sym (told.1 (q / 2) (omega arith)) ∙ sym (get_or-take ends marks (q / 2) None (omega arith)) ∙ p)
                 ];
           };
     }

@@ -1,5 +1,5 @@
 -- Questions by number, and those that are known to be answered no. Nothing here says which are known: that is a matter of speed.
-use Rattle.std.specs.Prelude.{ℕ, suc, ◌*◌, ◌/◌, ◌%◌, ◌<◌, ◌≡◌, ◌⊎◌, List, Bool, true, false, eqb, get_or}
+use Rattle.std.specs.Prelude.{ℕ, ◌*◌, ◌/◌, ◌%◌, ◌<◌, ◌≡◌, ◌⊎◌, List, Bool, true, false, Option, Some, None, eqb, get_or}
 use Rattle.condition.specs.Limits.{question_room}
 use Rattle.condition.specs.Meaning.{Tree, Within}
 use Rattle.condition.specs.Folding.{live}
@@ -27,12 +27,12 @@ abbrev pub questions : ℕ
 questions = 2 * question_room
 
 -- a question is known that was known, or that the mark of its end answers
-pub record Notes (marks : List ℕ) (known known' : List Bool) : Type 0 where
-  pub from : (q : ℕ) → get_or known' q false ≡ true → (get_or known q false ≡ true) ⊎ (get_or marks (q / 2) 0 ≡ suc (q % 2))
+pub record Notes (marks : List (Option Bool)) (known known' : List Bool) : Type 0 where
+  pub from : (q : ℕ) → get_or known' q false ≡ true → (get_or known q false ≡ true) ⊎ (get_or marks (q / 2) None ≡ Some (eqb (q % 2) 1))
 
-pub record Learns (n : ℕ → Node) (size : ℕ) (known known' : List Bool) : Type 0 where
-  pub right : (t : Tree) → Laid t n 0 → nodes t ≡ size → size < question_room → Known t known → Known t known'
+pub record Learns (n : ℕ → Node) (known known' : List Bool) : Type 0 where
+  pub right : (t : Tree) → Laid t n 0 → nodes t < question_room → Known t known → Known t known'
 
-pub record Replies (n : ℕ → Node) (size q : ℕ) (known : List Bool) (yes : Bool) (known' : List Bool) : Type 0 where
-  pub right : (t : Tree) → Laid t n 0 → nodes t ≡ size → size < question_room → Within t → q < 2 * live t → Known t known →
+pub record Replies (n : ℕ → Node) (q : ℕ) (known : List Bool) (yes : Bool) (known' : List Bool) : Type 0 where
+  pub right : (t : Tree) → Laid t n 0 → nodes t < question_room → Within t → q < 2 * live t → Known t known →
       (yes ≡ answer sat (numbered t q)) × Known t known'

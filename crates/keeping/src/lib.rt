@@ -4,11 +4,12 @@
 #![tactic(auto)]
 
 ghost use Rattle.std.specs.Prelude.{◌≡◌, ◌*◌, ◌≤◌, ◌<◌, length, false, replicate};
-ghost use Rattle.nodes.specs.Words.{node_at};
+ghost use Rattle.nodes.specs.Memory.{node_at};
 ghost use Rattle.keeping.specs.Kept.{questions, Notes, Learns, Replies};
 
 use condition::{ASSIGNED, QUESTION_ROOM, Whole};
-use settling::Verdict;
+use judging::Assignment;
+use nodes::Node;
 use std::marker::Model;
 
 // So many assignments are kept at most; one more takes the last one's place.
@@ -45,40 +46,42 @@ impl Model for Kept {
     ghost invariant = { λ k. (k.tried ≤ k.many) × (k.many < kept) };
 }
 
-// Makes known each question that a mark answers no: 1 question one of its end, 2 question two.
-fn note(marks: &[u8], known: &mut [bool; QUESTIONS])
+// Makes known each question that a mark answers no: question one about an end that is false, question two about one that is true.
+fn note(marks: &[Option<bool>], known: &mut [bool; QUESTIONS])
     requires { 2 * length marks.now ≤ questions }
     ensures { Notes marks.now known.old known.new }
 {
     for (end, mark) in marks.iter().enumerate() {
-        match *mark {
-            1 => known[2 * end] = true,
-            2 => known[2 * end + 1] = true,
-            _ => {}
+        if let Some(met) = mark {
+            known[2 * end + usize::from(*met)] = true;
         }
     }
 }
 
-// What one assignment tells of the tree in the first n nodes.
-fn learn(ns: &[u64], n: usize, found: &Found, known: &mut [bool; QUESTIONS])
-    ensures { Learns (node_at ns.now) n known.old known.new }
+// What one assignment tells of the tree that stands from node 0 on.
+fn learn(ns: &[Node], found: &Found, known: &mut [bool; QUESTIONS])
+    ensures { Learns (node_at ns.now) known.old known.new }
 {
-    let mut marks = [0u8; QUESTION_ROOM];
-    let ends = turning::turn(ns, n, found.flags, &found.numbers, &mut marks);
+    let mut marks = [None; QUESTION_ROOM];
+    let assignment = Assignment {
+        flags: found.flags,
+        numbers: &found.numbers,
+    };
+    let ends = turning::turn(ns, assignment, &mut marks);
     note(&marks[..ends], known);
 }
 
 // Walks the tree under one assignment after another, until question q is known: how many these were.
-fn recall(ns: &[u64], n: usize, q: usize, found: &[Found], known: &mut [bool; QUESTIONS]) -> usize
+fn recall(ns: &[Node], q: usize, found: &[Found], known: &mut [bool; QUESTIONS]) -> usize
     requires { q < questions }
     ensures many { result ≤ length found.now }
-    ensures right { Learns (node_at ns.now) n known.old known.new }
+    ensures right { Learns (node_at ns.now) known.old known.new }
 {
     for (k, one) in found.iter().enumerate() {
         if known[q] {
             return k;
         }
-        learn(ns, n, one, known);
+        learn(ns, one, known);
     }
     found.len()
 }
@@ -107,11 +110,11 @@ impl Kept {
         self.known = [false; QUESTIONS];
     }
 
-    // Whether question q about the tree in the first n nodes is answered yes: question one of end q / 2, counted from 0, or if q is odd
+    // Whether question q about the tree that stands from node 0 on is answered yes: question one of end q / 2, counted from 0, or if q is odd
     // question two.
-    pub fn answer(&mut self, ns: &[u64], n: usize, q: usize) -> bool
+    pub fn answer(&mut self, ns: &[Node], q: usize) -> bool
         requires { q < questions }
-        ensures { Replies (node_at ns.now) n q self.old result self.new }
+        ensures { Replies (node_at ns.now) q self.old result self.new }
     {
         let Kept {
             found,
@@ -119,17 +122,16 @@ impl Kept {
             tried,
             known,
         } = self;
-        *tried += recall(ns, n, q, &found[*tried..*many], known);
+        *tried += recall(ns, q, &found[*tried..*many], known);
         if known[q] {
             return false;
         }
         let next = &mut found[*many];
-        let verdict = answering::answer(ns, n, q / 2, q % 2 == 1, &mut next.numbers);
-        let Verdict::Found(flags) = verdict else {
+        let Some(flags) = answering::answer(ns, q / 2, q % 2 == 1, &mut next.numbers) else {
             return true;
         };
         next.flags = flags;
-        learn(ns, n, next, known);
+        learn(ns, next, known);
         *many = (*many + 1).min(KEPT - 1);
         *tried = *many;
         false

@@ -7,7 +7,7 @@ use native.Mathlib.Omega.{arith}
 use Rattle.condition.specs.Meaning.{End, Join, all, any, Tree, plain, leaf, join, Forest, none, more, count, ends, ends_all, Formed, FormedAll}
 use Rattle.nodes.specs.declared.Node.{Node}
 use Rattle.nodes.specs.declared.Node.TheVariants as node
-use Rattle.nodes.specs.Words.{size_of, count_of}
+use Rattle.nodes.specs.Memory.{size_of, count_of}
 use Rattle.nodes.specs.Laid.{join_of, is_all, flag_end, bound_end, EndIs, nodes, nodes_all, Laid, LaidAll}
 
 pub is_all_join_of : (b : Bool) → is_all (join_of b) ≡ b

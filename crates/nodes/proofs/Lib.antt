@@ -1,3 +1,3 @@
 -- Laws of the tree in memory, for the crates above.
-pub mod Words
+pub mod Memory
 pub mod Laws

@@ -1,3 +1,3 @@
--- The tree in memory: a node as a number, then a tree as nodes.
-pub mod Words
+-- The tree in memory: its nodes, then a tree as nodes.
+pub mod Memory
 pub mod Laid

@@ -21,9 +21,9 @@ use Rattle.cursor.specs.Said.{answer_of, place_of, from, said}
 use Rattle.cursor.proofs.Steps.{Taken, refusal_read, first_byte, no_bytes}
 use Rattle.nodes.specs.declared.Node.{Node}
 use Rattle.nodes.specs.declared.Node.TheVariants as node
-use Rattle.nodes.specs.Words.{node_at, word_of, Fits}
+use Rattle.nodes.specs.Memory.{node_at, word_of, Fits}
 use Rattle.nodes.specs.Laid.{shifted, EndIs, nodes, nodes_all, Laid, LaidAll}
-use Rattle.nodes.proofs.Words.{put_here, put_other}
+use Rattle.nodes.proofs.Memory.{put_here, put_other}
 use Rattle.nodes.proofs.Laws.{is_all_join_of, tell, move, move_all}
 use Rattle.reading.specs.declared.Part.{Part}
 use Rattle.reading.specs.declared.Part.TheVariants as part

@@ -9,7 +9,7 @@ use Rattle.cursor.specs.declared.Step.{Step}
 use Rattle.cursor.specs.declared.Step.TheVariants.{Value, Refused}
 use Rattle.cursor.specs.Said.{answer_of, place_of, from}
 use Rattle.nodes.specs.declared.Node.{Node}
-use Rattle.nodes.specs.Words.{node_at}
+use Rattle.nodes.specs.Memory.{node_at}
 use Rattle.nodes.specs.Laid.{Laid, LaidAll, nodes, nodes_all}
 use Rattle.reading.specs.declared.Part.{Part}
 use Rattle.reading.specs.declared.Part.TheVariants as part

@@ -17,7 +17,7 @@ use Rattle.condition.proofs.Small.{small}
 use Rattle.differences.specs.Table.{Meets, Closed, tightest, Starts}
 use Rattle.differences.proofs.Closed.{tightest_meets}
 use Rattle.nodes.specs.declared.Node.{Node}
-use Rattle.nodes.specs.Words.{count_of, size_of}
+use Rattle.nodes.specs.Memory.{count_of, size_of}
 use Rattle.nodes.specs.Laid.{nodes, nodes_all, Laid, LaidAll}
 use Rattle.nodes.proofs.Laws.{some_node, sized, counted, at_none, at_more}
 use Rattle.settling.specs.declared.Verdict.{Verdict}

@@ -4,7 +4,7 @@
 ghost use Rattle.std.specs.Prelude.{◌≡◌, ◌+◌, ◌≤◌, ◌<◌, cond, eqb, length};
 ghost use Rattle.condition.specs.Limits.{last_number, question_room};
 ghost use Rattle.differences.specs.Table.{Closed};
-ghost use Rattle.nodes.specs.Words.{node_at};
+ghost use Rattle.nodes.specs.Memory.{node_at};
 ghost use Rattle.settling.specs.Settled.{side, Marks, Bounds, State, Takes, Settles, Bits, Shows, Guesses, Attempts, Tries, Finds};
 
 use condition::{

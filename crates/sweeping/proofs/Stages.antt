@@ -23,7 +23,7 @@ use Rattle.condition.proofs.Folding.{fold_within}
 use Rattle.condition.proofs.Putting.{cut_within}
 use Rattle.condition.proofs.Run.{Reached, advance, stopped}
 use Rattle.nodes.specs.declared.Node.{Node}
-use Rattle.nodes.specs.Words.{node_at}
+use Rattle.nodes.specs.Memory.{node_at}
 use Rattle.nodes.specs.Laid.{nodes, Laid}
 use Rattle.asking.specs.Asked.{Lives}
 use Rattle.keeping.specs.Kept.{questions, numbered, Known, Replies}

@@ -4,7 +4,7 @@ use Rattle.condition.specs.Limits.{tree_room}
 use Rattle.condition.specs.Meaning.{Tree, Within}
 use Rattle.condition.specs.Sweep.{Answer, trimmed}
 use Rattle.nodes.specs.declared.Node.{Node}
-use Rattle.nodes.specs.Words.{node_at}
+use Rattle.nodes.specs.Memory.{node_at}
 use Rattle.nodes.specs.Laid.{nodes, Laid}
 
 pub record Says (a : Answer) (tree : List ℕ) (size asked : ℕ) (finished : Bool) : Type 0 where

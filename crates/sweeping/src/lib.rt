@@ -3,7 +3,7 @@
 // answers is asked and counted like any other.
 #![tactic(auto)]
 
-ghost use Rattle.nodes.specs.Words.{node_at};
+ghost use Rattle.nodes.specs.Memory.{node_at};
 ghost use Rattle.sweeping.specs.Swept.{Sweeps};
 
 use condition::TREE_ROOM;

@@ -14,7 +14,7 @@ use Rattle.condition.specs.Sweep.{Answer, trimmed}
 use Rattle.condition.proofs.Reading.{octets, read_written}
 use Rattle.condition.proofs.Trimmed.{trimmed_within}
 use Rattle.cursor.specs.declared.Refusal.{Refusal}
-use Rattle.nodes.specs.Words.{node_at}
+use Rattle.nodes.specs.Memory.{node_at}
 use Rattle.nodes.proofs.Laws.{nodes_few}
 use Rattle.reading.specs.declared.Answer.{Answer as Held}
 use Rattle.reading.specs.declared.Answer.TheVariants as held

@@ -14,7 +14,7 @@ use Rattle.condition.specs.Reading.{Read, tree, refusal, read}
 use Rattle.condition.proofs.Small.{formed_named}
 use Rattle.condition.proofs.Reading.{octets, read_written}
 use Rattle.cursor.specs.declared.Refusal.{Refusal}
-use Rattle.nodes.specs.Words.{node_at}
+use Rattle.nodes.specs.Memory.{node_at}
 use Rattle.nodes.specs.Laid.{Laid, nodes}
 use Rattle.reading.specs.declared.Answer.{Answer}
 use Rattle.reading.specs.declared.Answer.TheVariants as answer

@@ -1,4 +1,3 @@
 -- Laws of turning.
-pub mod Clearing
 pub mod Telling
 pub mod Walk

@@ -1,9 +1,10 @@
 -- What an assignment tells of an end, down the path. A node's own constraint only adds itself to the constraint of an end below, so what
--- is told of an end below a connective is what its child tells of it, where the siblings leave the connective to that child, and else 0.
+-- is told of an end below a connective is what its child tells of it, where the siblings leave the connective to that child, and else nothing.
 use Prim.Native.Nat.{ℕ, ◌+◌, ◌-◌, ◌<◌}
 use mathlib.Core.Path.{◌≡◌, refl, sym, ap, ◌∙◌}
 use mathlib.Core.Bool.{Bool, true, false, not, cond, ◌&&◌}
 use native.Mathlib.Omega.{arith}
+use Rattle.std.proofs.Common.{Option, Some, None}
 use lib.Dec.{ltb}
 use borrow.Table.Steps.{cases}
 use borrow.Author.Tests.{lt-ltb, le-ltb}
@@ -13,7 +14,7 @@ use Rattle.condition.specs.Critical.{end_at, end_in, both, star, critical, criti
 use Rattle.condition.proofs.Putting.{split}
 use Rattle.condition.proofs.Negation.{holds_negate}
 use Rattle.nodes.specs.Laid.{join_of}
-use Rattle.turning.specs.Turned.{side, tells, tells_in}
+use Rattle.turning.specs.Turned.{tells, tells_in}
 
 -- what a connective needs of a sibling for the others to matter
 abbrev pub leaves : Bool → Bool → Bool
@@ -32,7 +33,7 @@ regroup : (p s x : Bool) → ((p && (s && true)) && x) ≡ (p && ((true && (s &&
 regroup true s x = refl
 regroup false s x = refl
 
-picked : (s s' x : Bool) (y : ℕ) → s ≡ s' → cond ((s && true) && x) y 0 ≡ cond s' (cond x y 0) 0
+picked : (s s' x : Bool) (y : Option Bool) → s ≡ s' → cond ((s && true) && x) y None ≡ cond s' (cond x y None) None
 picked true s' x y e = rw (sym e) refl
 picked false s' x y e = rw (sym e) refl
 
@@ -62,17 +63,17 @@ module _ (a : Assignment) where
 
   module _ (b : Bool) (t : Tree) (ts : Forest) (i : ℕ) where
     -- end i is in the first child, or in one of the others
-    pub first_tells : ltb i (live t) ≡ true → tells_in (more t ts) (join_of b) i a ≡ cond (leaves b (each ts (join_of b) a)) (tells t i a) 0
+    pub first_tells : ltb i (live t) ≡ true → tells_in (more t ts) (join_of b) i a ≡ cond (leaves b (each ts (join_of b) a)) (tells t i a) None
     unfolding tells_in tells critical critical_from end_at holds
     first_tells e = rw e
-        (ap (λ x. cond x (side (met (end_at t i) a)) 0) (from_and t (both (plain true) (star (join_of b) (join (join_of b) ts))) i)
+        (ap (λ x. cond x (Some (met (end_at t i) a)) None) (from_and t (both (plain true) (star (join_of b) (join (join_of b) ts))) i)
         ∙ picked _ _ _ _ (star_holds b (join (join_of b) ts) a))
 
     pub later_tells : ltb i (live t) ≡ false →
-        tells_in (more t ts) (join_of b) i a ≡ cond (leaves b (holds t a)) (tells_in ts (join_of b) (i - live t) a) 0
+        tells_in (more t ts) (join_of b) i a ≡ cond (leaves b (holds t a)) (tells_in ts (join_of b) (i - live t) a) None
     unfolding tells_in critical_from end_at holds
     later_tells e = rw e
-        (ap (λ x. cond x (side (met (end_in ts (i - live t)) a)) 0) (in_and ts (join_of b) (both (plain true) (star (join_of b) t)) (i - live t))
+        (ap (λ x. cond x (Some (met (end_in ts (i - live t)) a)) None) (in_and ts (join_of b) (both (plain true) (star (join_of b) t)) (i - live t))
         ∙ picked _ _ _ _ (star_holds b t a))
 
   -- a connective is told of as its children are, and an end alone turns itself
@@ -80,7 +81,7 @@ module _ (a : Assignment) where
   unfolding tells_in tells critical critical_from end_at
   join_tells j ts i = refl
 
-  pub end_tells : (e : End) (i : ℕ) → tells (leaf e) i a ≡ side (met e a)
+  pub end_tells : (e : End) (i : ℕ) → tells (leaf e) i a ≡ Some (met e a)
   unfolding tells critical critical_from end_at holds
   end_tells e i = refl
 
@@ -120,13 +121,13 @@ joined_assoc true false y z = refl
 joined_assoc false true y z = refl
 joined_assoc false false y z = refl
 
-leave_both : (b x y : Bool) (w : ℕ) → cond (leaves b (joined (join_of b) x y)) w 0 ≡ cond (leaves b x) (cond (leaves b y) w 0) 0
+leave_both : (b x y : Bool) (w : Option Bool) → cond (leaves b (joined (join_of b) x y)) w None ≡ cond (leaves b x) (cond (leaves b y) w None) None
 leave_both true true y w = refl
 leave_both true false y w = refl
 leave_both false true y w = refl
 leave_both false false y w = refl
 
-swapped : (x y : Bool) (w : ℕ) → cond x (cond y w 0) 0 ≡ cond y (cond x w 0) 0
+swapped : (x y : Bool) (w : Option Bool) → cond x (cond y w None) None ≡ cond y (cond x w None) None
 swapped true y w = refl
 swapped false true w = refl
 swapped false false w = refl
@@ -139,22 +140,22 @@ module _ (a : Assignment) (b : Bool) (t : Tree) where
 
   -- an end of the elder trees, and one of the last
   pub elder_tells : (ts : Forest) (x : ℕ) → x < live_all ts →
-      tells_in (last ts t) (join_of b) x a ≡ cond (leaves b (holds t a)) (tells_in ts (join_of b) x a) 0
+      tells_in (last ts t) (join_of b) x a ≡ cond (leaves b (holds t a)) (tells_in ts (join_of b) x a) None
   unfolding live
   elder_tells none x h = absurd (omega arith)
   elder_tells (more u ts) x h = split x (live u)
       (λ l e. first_tells a b u (last ts t) x e
-      ∙ ap (λ y. cond (leaves b y) (tells u x a) 0) (last_each ts)
+      ∙ ap (λ y. cond (leaves b y) (tells u x a) None) (last_each ts)
       ∙ leave_both b (each ts (join_of b) a) (holds t a) (tells u x a)
       ∙ swapped (leaves b (each ts (join_of b) a)) (leaves b (holds t a)) (tells u x a)
-      ∙ ap (λ y. cond (leaves b (holds t a)) y 0) (sym (first_tells a b u ts x e)))
+      ∙ ap (λ y. cond (leaves b (holds t a)) y None) (sym (first_tells a b u ts x e)))
       (λ l e. later_tells a b u (last ts t) x e
-      ∙ ap (λ y. cond (leaves b (holds u a)) y 0) (elder_tells ts (x - live u) (omega arith))
+      ∙ ap (λ y. cond (leaves b (holds u a)) y None) (elder_tells ts (x - live u) (omega arith))
       ∙ swapped (leaves b (holds u a)) (leaves b (holds t a)) (tells_in ts (join_of b) (x - live u) a)
-      ∙ ap (λ y. cond (leaves b (holds t a)) y 0) (sym (later_tells a b u ts x e)))
+      ∙ ap (λ y. cond (leaves b (holds t a)) y None) (sym (later_tells a b u ts x e)))
 
   pub last_tells : (ts : Forest) (x : ℕ) → x < live t →
-      tells_in (last ts t) (join_of b) (live_all ts + x) a ≡ cond (leaves b (each ts (join_of b) a)) (tells t x a) 0
+      tells_in (last ts t) (join_of b) (live_all ts + x) a ≡ cond (leaves b (each ts (join_of b) a)) (tells t x a) None
   unfolding live holds
   last_tells none x h =
       let here : 0 + x ≡ x = omega arith in
@@ -162,6 +163,6 @@ module _ (a : Assignment) (b : Bool) (t : Tree) where
   last_tells (more u ts) x h =
       let there : live u + live_all ts + x - live u ≡ live_all ts + x = omega arith in
       later_tells a b u (last ts t) (live u + live_all ts + x) (le-ltb (live u + live_all ts + x) (live u) (omega arith))
-      ∙ ap (λ y. cond (leaves b (holds u a)) (tells_in (last ts t) (join_of b) y a) 0) there
-      ∙ ap (λ y. cond (leaves b (holds u a)) y 0) (last_tells ts x h)
+      ∙ ap (λ y. cond (leaves b (holds u a)) (tells_in (last ts t) (join_of b) y a) None) there
+      ∙ ap (λ y. cond (leaves b (holds u a)) y None) (last_tells ts x h)
       ∙ sym (leave_both b (holds u a) (each ts (join_of b) a) (tells t x a))

@@ -3,14 +3,14 @@
 // falling. Where no tree is laid out the marks mean nothing, and the walk still ends.
 #![tactic(auto)]
 
-ghost use Rattle.std.specs.Prelude.{◌≡◌, ◌+◌, ◌≤◌, ◌<◌, length};
+ghost use Rattle.std.specs.Prelude.{◌≡◌, ℕ, ◌+◌, ◌≤◌, ◌<◌, cond, length, get_or};
 ghost use Rattle.condition.specs.Limits.{question_room};
-ghost use Rattle.condition.specs.Meaning.{given};
-ghost use Rattle.nodes.specs.Words.{node_at};
-ghost use Rattle.turning.specs.Turned.{side, Clears, Ends, Turns, TurnsAll, Tells};
+ghost use Rattle.nodes.specs.Memory.{node_at};
+ghost use Rattle.judging.specs.Assigned.{assignment_of};
+ghost use Rattle.turning.specs.Turned.{Ends, Turns, TurnsAll, Tells};
 
-use condition::{QUESTION_ROOM, Whole};
-use judging::{at_most, both, flag, turned};
+use condition::QUESTION_ROOM;
+use judging::{Assignment, both, turned};
 use nodes::{Node, node_at, size_at};
 
 // What a walk saw: whether the trees are true, and how many ends they have, each of which now has its mark.
@@ -20,52 +20,29 @@ struct Seen {
     ends: usize,
 }
 
-// The mark of an end that turns the root: 2 if it is true, 1 if it is false. The mark of one that doesn't is 0.
-fn side(v: bool) -> u8
-    ensures { result ≡ side v }
+// Clears marks, unless they stay.
+fn clear(stay: bool, marks: &mut [Option<bool>])
+    ensures { (k : ℕ) → get_or marks.new k None ≡ cond stay (get_or marks.old k None) None }
 {
-    if v { 2 } else { 1 }
-}
-
-// Clears the marks from `from` up to `to`, unless they stay.
-fn clear(stay: bool, marks: &mut [u8], from: usize, to: usize)
-    requires { (from ≤ to) × (to ≤ length marks.old) }
-    ensures { Clears stay from to marks.old marks.new }
-{
-    if stay {
-        return;
-    }
-    let mut k = from;
-    while k < to {
-        marks[k] = 0;
-        k += 1;
+    if !stay {
+        marks.fill(None);
     }
 }
 
 // An end that is v, alone: it turns itself.
-fn end(v: bool, at: usize, marks: &mut [u8]) -> Seen
-    requires { at < length marks.old }
-    ensures { Ends v at marks.old result.value result.ends marks.new }
+fn end(v: bool, marks: &mut [Option<bool>]) -> Seen
+    requires { 0 < length marks.old }
+    ensures { Ends v result.value result.ends marks.new }
 {
-    marks[at] = side(v);
+    marks[0] = Some(v);
     Seen { value: v, ends: 1 }
 }
 
-// The tree at i, of at most `left` nodes: the marks of its ends stand from `at` on. That i + left is small keeps every sum below from
-// wrapping.
+// The tree at i, of at most `left` nodes: the marks of its ends stand first. That i + left is small keeps every sum below from wrapping.
 #[cycle(children_node)]
-fn node(
-    ns: &[u64],
-    i: usize,
-    left: usize,
-    flags: u32,
-    numbers: &[Whole],
-    at: usize,
-    marks: &mut [u8],
-) -> Seen
-    requires { (i + left ≤ question_room) × (at ≤ i) × (at + left ≤ length marks.old) }
-    ensures { Turns (node_at ns.now) i left (given flags numbers.now) at marks.old
-        result.value result.ends marks.new }
+fn node(ns: &[Node], i: usize, left: usize, a: Assignment<'_>, marks: &mut [Option<bool>]) -> Seen
+    requires { (i + left ≤ question_room) × (left ≤ length marks.old) }
+    ensures { Turns (node_at ns.now) i left (assignment_of a.entry) result.value result.ends marks.new }
 {
     if left == 0 {
         return Seen {
@@ -75,9 +52,9 @@ fn node(
     }
     match node_at(ns, i) {
         Node::Plain(b) => Seen { value: b, ends: 0 },
-        Node::Flag(so, p) => end(turned(so, flag(flags, p)), at, marks),
-        Node::Bound(so, x, y, w) => end(turned(so, at_most(numbers, x, y, w)), at, marks),
-        Node::Join(all, k, _) => children(ns, i + 1, left - 1, all, k, flags, numbers, at, marks),
+        Node::Flag(so, p) => end(turned(so, a.flag(p)), marks),
+        Node::Bound(so, x, y, w) => end(turned(so, a.at_most(x, y, w)), marks),
+        Node::Join(all, k, _) => children(ns, i + 1, left - 1, all, k, a, marks),
     }
 }
 
@@ -85,60 +62,45 @@ fn node(
 // leaves it to them, as a true one does under an `and` and a false one under an `or`; and so with an end of the next.
 #[cycle(children_node)]
 fn children(
-    ns: &[u64],
+    ns: &[Node],
     i: usize,
     left: usize,
     all: bool,
     k: u32,
-    flags: u32,
-    numbers: &[Whole],
-    at: usize,
-    marks: &mut [u8],
+    a: Assignment<'_>,
+    marks: &mut [Option<bool>],
 ) -> Seen
-    requires { (i + left ≤ question_room) × (at ≤ i) × (at + left ≤ length marks.old) }
-    ensures { TurnsAll (node_at ns.now) i left all k (given flags numbers.now) at marks.old
-        result.value result.ends marks.new }
+    requires { (i + left ≤ question_room) × (left ≤ length marks.old) }
+    ensures { TurnsAll (node_at ns.now) i left all k (assignment_of a.entry) result.value result.ends marks.new }
 {
+    let stop = i + left;
     let mut from = i;
-    let mut rest = left;
-    let mut todo = k;
     let mut value = all;
-    let mut ends: usize = 0;
-    while 0 < todo {
+    let mut ends = 0;
+    for _ in 0..k {
         let s = size_at(ns, from);
-        if rest < s {
-            return Seen {
-                value: value,
-                ends: ends,
-            };
+        if stop - from < s {
+            return Seen { value, ends };
         }
-        let mid = at + ends;
-        let next = node(ns, from, s, flags, numbers, mid, marks);
-        clear(turned(all, next.value), marks, at, mid);
-        clear(turned(all, value), marks, mid, mid + next.ends);
+        let (elder, room) = marks.split_at_mut(ends);
+        let next = node(ns, from, s, a, room);
+        clear(turned(all, next.value), elder);
+        clear(turned(all, value), &mut room[..next.ends]);
         value = both(all, value, next.value);
         ends += next.ends;
         from += s;
-        rest -= s;
-        todo -= 1;
     }
-    Seen {
-        value: value,
-        ends: ends,
-    }
+    Seen { value, ends }
 }
 
-// Marks each end of the tree in the first n nodes, from the first mark on, and counts them. Without a mark for each node, nothing is
-// marked.
-pub fn turn(ns: &[u64], n: usize, flags: u32, numbers: &[Whole], marks: &mut [u8]) -> usize
-    ensures { Tells (node_at ns.now) n (given flags numbers.now) marks.old result marks.new }
+// Marks each end of the tree that stands from node 0 on, from the first mark on, and counts them: Some(v) if it is v and turns the root,
+// None if it doesn't turn it. Without a mark for each node of the tree, nothing is marked.
+pub fn turn(ns: &[Node], a: Assignment<'_>, marks: &mut [Option<bool>]) -> usize
+    ensures { Tells (node_at ns.now) (assignment_of a.entry) marks.old result marks.new }
 {
-    if QUESTION_ROOM < n {
+    let n = size_at(ns, 0);
+    if QUESTION_ROOM.min(marks.len()) < n {
         return 0;
     }
-    if marks.len() < n {
-        return 0;
-    }
-    let seen = children(ns, 0, n, true, 1, flags, numbers, 0, marks);
-    seen.ends
+    node(ns, 0, n, a, marks).ends
 }

@@ -10,7 +10,7 @@ use Rattle.condition.specs.Meaning.{End, Tree, plain, leaf, join, Forest, none, 
 use Rattle.condition.specs.Bytes.{number, join_tag, end_bytes, bytes, bytes_all}
 use Rattle.nodes.specs.declared.Node.{Node}
 use Rattle.nodes.specs.declared.Node.TheVariants as node
-use Rattle.nodes.specs.Words.{size_of, count_of}
+use Rattle.nodes.specs.Memory.{size_of, count_of}
 use Rattle.nodes.specs.Laid.{EndIs, nodes, nodes_all, Laid, LaidAll}
 use Rattle.nodes.proofs.Laws.{join_of_is_all, some_node, sized, at_none, at_more}
 use Rattle.writing.specs.Written.{own, Put, PutTree, PutAll, Wrote}

@@ -6,7 +6,7 @@
 ghost use Rattle.std.specs.Prelude.{◌≡◌, ◌++◌, cond, ◌+◌, ◌*◌, ◌≤◌, length};
 ghost use Rattle.condition.specs.Limits.{last_tag, groups, tree_room};
 ghost use Rattle.condition.specs.Bytes.{groups_of, number, written};
-ghost use Rattle.nodes.specs.Words.{node_at};
+ghost use Rattle.nodes.specs.Memory.{node_at};
 ghost use Rattle.nodes.specs.Laid.{shifted};
 ghost use Rattle.writing.specs.Written.{own, Put, PutTree, PutAll, Needed, Written};
 

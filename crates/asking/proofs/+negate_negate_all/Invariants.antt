@@ -2,7 +2,7 @@
 use Prim.Native.Nat.{◌+◌, ◌-◌, ◌*◌}
 use mathlib.Core.Path.{◌≡◌}
 use lib.ListN.{length}
-use Rattle.nodes.specs.Words.{node_at}
+use Rattle.nodes.specs.Memory.{node_at}
 use Rattle.asking.proofs.Negating.{Negated}
 use Rattle.asking.proofs.+negate_negate_all.Given as goal
 

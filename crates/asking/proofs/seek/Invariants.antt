@@ -1,6 +1,6 @@
 -- What the loop of `asking::seek` keeps, and what falls; Answers.antt says the argument.
 use Prim.Native.Nat.{◌-◌}
-use Rattle.nodes.specs.Words.{node_at}
+use Rattle.nodes.specs.Memory.{node_at}
 use Rattle.asking.proofs.Seeking.{Seeking}
 use Rattle.asking.proofs.seek.Given as goal
 

@@ -1,6 +1,6 @@
 -- `asking::turn` meets its contract: the two cases of `turned`.
 use mathlib.Core.Path.{sym, ap, ◌∙◌}
-use Rattle.nodes.specs.Words.{node_of}
+use Rattle.nodes.specs.Memory.{node_of}
 use Rattle.asking.specs.Asked.{turned}
 use Rattle.asking.proofs.turn.Goals as goal
 

@@ -23,11 +23,11 @@ node-returns-in-Plain t c =
 
 pub node-returns-in-Flag : goal.node-returns-in-Flag
 node-returns-in-Flag t c =
-    walk.flag_judged c.node_at.ensures c.in-Flag.is (c.flag.ensures _) c.turned.ensures
+    walk.flag_judged c.node_at.ensures c.in-Flag.is c.flag.ensures c.turned.ensures
 
 pub node-returns-in-Bound : goal.node-returns-in-Bound
 node-returns-in-Bound t c =
-    walk.bound_judged c.node_at.ensures c.in-Bound.is (c.at_most.ensures _) c.turned-in-Bound.ensures
+    walk.bound_judged c.node_at.ensures c.in-Bound.is c.at_most.ensures c.turned-in-Bound.ensures
 
 pub node-returns-in-Join : goal.node-returns-in-Join
 node-returns-in-Join t c =

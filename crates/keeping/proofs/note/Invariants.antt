@@ -1,4 +1,4 @@
--- What the loop of `keeping::note` keeps; Answers.antt says the argument.
+-- What the loop of `keeping::note` keeps.
 use Rattle.keeping.specs.Kept.{Notes}
 use Rattle.keeping.proofs.note.Given as goal
 

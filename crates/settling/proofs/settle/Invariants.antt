@@ -1,6 +1,6 @@
 -- What the loop of `settling::settle` keeps, and what falls; Answers.antt says the argument.
 use Prim.Native.Nat.{◌-◌}
-use Rattle.nodes.specs.Words.{node_at}
+use Rattle.nodes.specs.Memory.{node_at}
 use Rattle.settling.proofs.Taking as taking
 use Rattle.settling.proofs.settle.Given as goal
 

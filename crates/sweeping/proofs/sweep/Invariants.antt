@@ -1,6 +1,6 @@
 -- What the loop of `sweeping::sweep` keeps, and what falls; Answers.antt says the argument.
 use Prim.Native.Nat.{◌-◌}
-use Rattle.nodes.specs.Words.{node_at}
+use Rattle.nodes.specs.Memory.{node_at}
 use Rattle.sweeping.proofs.Stages.{Goes}
 use Rattle.sweeping.proofs.sweep.Given as goal
 

@@ -1,8 +1,8 @@
--- What a loop of `turning::node` and `turning::children` keeps, and what falls; Answers.antt says the argument.
-use Rattle.condition.specs.Meaning.{given}
-use Rattle.nodes.specs.Words.{node_at}
+-- What the loop of `turning::children` keeps, and what falls in the calls of `turning::node` and `turning::children`: the nodes that are left.
+use Rattle.std.proofs.Common.{◌+◌, ◌*◌}
+use Rattle.nodes.specs.Memory.{node_at}
+use Rattle.judging.specs.Assigned.{assignment_of}
 use Rattle.turning.proofs.Walk.{Walked}
-use Prim.Native.Nat.{◌+◌, ◌*◌}
 use Rattle.turning.proofs.+children_node.Given as goal
 
 abbrev pub decreases-children : goal.decreases-children
@@ -11,10 +11,6 @@ decreases-children l = 2 * l.left + 1
 abbrev pub decreases-node : goal.decreases-node
 decreases-node l = 2 * l.left
 
-abbrev pub invariant-children-loop-todo : goal.invariant-children-loop-todo
-invariant-children-loop-todo l =
-    Walked (node_at l.ns) l.i l.left l.all l.k (given l.flags l.numbers) l.at l.initial.marks l.from l.rest l.todo l.value l.ends l.marks
-
-abbrev pub decreases-children-loop-todo : goal.decreases-children-loop-todo
-decreases-children-loop-todo l =
-    l.todo
+abbrev pub invariant-children-loop : goal.invariant-children-loop
+invariant-children-loop l =
+    Walked (node_at l.ns) l.i l.left l.all l.k (assignment_of l.a) l.stop l.from l.counter l.value l.ends l.marks

@@ -2,7 +2,7 @@
 use Prim.Native.Nat.{◌≤◌, ◌*◌, ◌-◌}
 use mathlib.Core.Path.{◌≡◌}
 use Rattle.condition.specs.Limits.{groups, tree_room}
-use Rattle.nodes.specs.Words.{node_at}
+use Rattle.nodes.specs.Memory.{node_at}
 use Rattle.writing.proofs.Total.{total}
 use Rattle.writing.proofs.needed.Given as goal
 
