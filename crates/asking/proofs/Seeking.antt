@@ -11,82 +11,80 @@ use Rattle.nodes.specs.Laid.{nodes, nodes_all, Laid, LaidAll}
 use Rattle.nodes.proofs.Laws.{some_node, sized}
 use Rattle.asking.specs.Asked.{ends_from, onto, Among, Sought}
 use Rattle.asking.proofs.EndsCounted.{ends_are}
+use Rattle.asking.proofs.Parts.{rest_laid}
 use Rattle.asking.proofs.Onto.{onto_again, onto_nodes, onto_live}
 
--- the trees `elder` are passed, and `ahead` stand from node `at` on
-pub record Passed (ts : Forest) (n : ℕ → Node) (i last m at end : ℕ) : Type 0 where
+-- the trees `elder` are passed, and `ahead` stand from node `at` on; what is left of m is `end`, an end of those ahead if m is an end
+pub record Passed (ts : Forest) (n : ℕ → Node) (last m at end : ℕ) : Type 0 where
   pub elder : Forest
   pub ahead : Forest
   pub parts : ts ≡ onto elder ahead
-  pub before : i + nodes_all elder ≡ at
+  pub before : nodes_all elder ≡ at
   pub laid : LaidAll ahead n at
   pub rest : at + nodes_all ahead ≡ last
   pub ended : live_all elder + end ≡ m
-  pub some : end < live_all ahead
 
-pub record Seeking (n : ℕ → Node) (i last m at end : ℕ) : Type 0 where
-  pub low : i ≤ at
+pub record Seeking (n : ℕ → Node) (last m at end : ℕ) : Type 0 where
   pub high : at ≤ last
-  pub going : (ts : Forest) → LaidAll ts n i → i + nodes_all ts ≡ last → m < live_all ts → Passed ts n i last m at end
+  pub going : (ts : Forest) → LaidAll ts n 0 → nodes_all ts ≡ last → Passed ts n last m at end
 
-module _ {n : ℕ → Node} {i last m : ℕ} where
-  pub seek_none : i ≤ last → Seeking n i last m i m
+module _ {n : ℕ → Node} {last m : ℕ} where
+  pub seek_none : Seeking n last m 0 m
   unfolding nodes live
-  seek_none near = record {
-    low = omega arith;
-    high = near;
-    going = λ ts l e h. record {
+  seek_none = record {
+    high = omega arith;
+    going = λ ts l e. record {
       elder = none;
       ahead = ts;
       parts = refl;
-      before = omega arith;
+      before = refl;
       laid = l;
       rest = omega arith;
       ended = omega arith;
-      some = h;
     };
   }
 
   -- where no tree is last, or its nodes are too many, none was sought
-  nowhere : {at end : ℕ} → Seeking n i last m at end → ((ts : Forest) → Passed ts n i last m at end → ⊥) → Sought n i last m at 0 0
-  nowhere w never = record {
-    low = w.low;
-    high = omega (arith, w.high);
-    right = λ ts l e h. absurd (never ts (w.going ts l e h));
-  }
+  nowhere : {at end : ℕ} → Seeking n last m at end → ((ts : Forest) → Passed ts n last m at end → live_all ts ≤ m) →
+      (ts : Forest) → LaidAll ts n 0 → nodes_all ts ≡ last → live_all ts ≤ m
+  nowhere w never ts l e = never ts (w.going ts l e)
 
-  pub seek_over : {at end : ℕ} → last ≤ at → Seeking n i last m at end → Sought n i last m at 0 0
+  ends_in : {at end : ℕ} (ts : Forest) (p : Passed ts n last m at end) → live_all ts ≡ live_all p.elder + live_all p.ahead
+  ends_in ts p = ap live_all p.parts ∙ onto_live p.elder p.ahead
+
+  pub seek_over : {at end : ℕ} → last ≤ at → Seeking n last m at end → (ts : Forest) → LaidAll ts n 0 → nodes_all ts ≡ last → live_all ts ≤ m
   unfolding nodes live Laid
-  seek_over {at} {end} h w = nowhere w (λ ts p. never p.ahead p.rest p.some)
+  seek_over {at} {end} h w = nowhere w (λ ts p. by ts p p.ahead p.rest (ends_in ts p))
     where
-      never : (us : Forest) → at + nodes_all us ≡ last → end < live_all us → ⊥
-      never none e lt = omega arith
-      never (more t us) e lt = omega (arith, some_node t)
+      by : (ts : Forest) (p : Passed ts n last m at end) (us : Forest) → at + nodes_all us ≡ last →
+          live_all ts ≡ live_all p.elder + live_all us → live_all ts ≤ m
+      by ts p none e q = let x = p.ended in omega arith
+      by ts p (more t us) e q = absurd (omega (arith, some_node t))
 
-  module _ {at end s : ℕ} (sz : s ≡ size_of (n at)) (w : Seeking n i last m at end) where
-    pub seek_beyond : last - at < s → Sought n i last m at 0 0
+  module _ {at end s : ℕ} (sz : s ≡ size_of (n at)) (w : Seeking n last m at end) (near : at < last) where
+    pub seek_beyond : last - at < s → (ts : Forest) → LaidAll ts n 0 → nodes_all ts ≡ last → live_all ts ≤ m
     unfolding nodes live Laid
-    seek_beyond h = nowhere w (λ ts p. never p.ahead p.laid p.rest p.some)
+    seek_beyond h = nowhere w (λ ts p. absurd (never p.ahead p.laid p.rest))
       where
-        never : (us : Forest) → LaidAll us n at → at + nodes_all us ≡ last → end < live_all us → ⊥
-        never none l e lt = omega arith
-        never (more t us) l e lt = omega (arith, sized t n at l.0)
+        never : (us : Forest) → LaidAll us n at → at + nodes_all us ≡ last → ⊥
+        never none l e = omega arith
+        never (more t us) l e = omega (arith, sized t n at l.0)
 
-    module _ {e : ℕ} (fit : s ≤ last - at) (counted : e ≡ ends_from n at s) where
-      pub seek_found : end < e → at < last → Sought n i last m at s end
+    module _ {e : ℕ} (k : ℕ → Node) (from : (x : ℕ) → k x ≡ n (at + x)) (fit : s ≤ last - at) (counted : e ≡ ends_from k 0 s) where
+      pub seek_found : end < e → 1 ≤ s → Sought n last m (record { at = at; size = s; end = end })
       unfolding nodes live Laid
-      seek_found lt near = record {
-        low = w.low;
+      seek_found lt some = record {
+        some = some;
         high = omega arith;
-        right = λ ts l q h. let p = w.going ts l q h in found ts p p.ahead p.parts p.laid p.some;
+        right = λ ts l q. let p = w.going ts l q in found ts p p.ahead p.parts p.laid p.rest;
       }
         where
-          found : (ts : Forest) (p : Passed ts n i last m at end) (us : Forest) → ts ≡ onto p.elder us → LaidAll us n at →
-              end < live_all us → Among ts i m at s end
-          found ts p none q l some = absurd (omega arith)
-          found ts p (more t us) q l some =
+          found : (ts : Forest) (p : Passed ts n last m at end) (us : Forest) → ts ≡ onto p.elder us → LaidAll us n at →
+              at + nodes_all us ≡ last → Among ts m (record { at = at; size = s; end = end })
+          found ts p none q l r = absurd (omega arith)
+          found ts p (more t us) q l r =
               let same : s ≡ nodes t = sz ∙ sized t n at l.0 in
-              let ends : e ≡ live t = counted ∙ ap (ends_from n at) same ∙ ends_are t n at l.0 in
+              let ends : e ≡ live t = counted ∙ ap (ends_from k 0) same ∙ ends_are t k 0 (rest_laid n k at from t l.0) in
               record {
                 elder = p.elder;
                 t = t;
@@ -98,20 +96,19 @@ module _ {n : ℕ → Node} {i last m : ℕ} where
                 inside = omega arith;
               }
 
-      pub seek_on : e ≤ end → at < last → Seeking n i last m (at + s) (end - e)
+      pub seek_on : e ≤ end → Seeking n last m (at + s) (end - e)
       unfolding nodes live Laid
-      seek_on le near = record {
-        low = omega (arith, w.low);
+      seek_on le = record {
         high = omega arith;
-        going = λ ts l q h. let p = w.going ts l q h in on ts p p.ahead p.parts p.laid p.rest p.some;
+        going = λ ts l q. let p = w.going ts l q in on ts p p.ahead p.parts p.laid p.rest;
       }
         where
-          on : (ts : Forest) (p : Passed ts n i last m at end) (us : Forest) → ts ≡ onto p.elder us → LaidAll us n at →
-              at + nodes_all us ≡ last → end < live_all us → Passed ts n i last m (at + s) (end - e)
-          on ts p none q l r some = absurd (omega arith)
-          on ts p (more t us) q l r some =
+          on : (ts : Forest) (p : Passed ts n last m at end) (us : Forest) → ts ≡ onto p.elder us → LaidAll us n at →
+              at + nodes_all us ≡ last → Passed ts n last m (at + s) (end - e)
+          on ts p none q l r = absurd (omega arith)
+          on ts p (more t us) q l r =
               let same : s ≡ nodes t = sz ∙ sized t n at l.0 in
-              let ends : e ≡ live t = counted ∙ ap (ends_from n at) same ∙ ends_are t n at l.0 in
+              let ends : e ≡ live t = counted ∙ ap (ends_from k 0) same ∙ ends_are t k 0 (rest_laid n k at from t l.0) in
               record {
                 elder = onto p.elder (more t none);
                 ahead = us;
@@ -120,5 +117,4 @@ module _ {n : ℕ → Node} {i last m : ℕ} where
                 laid = subst (λ x. LaidAll us n (at + x)) (sym same) l.1;
                 rest = omega arith;
                 ended = omega (arith, onto_live p.elder (more t none), p.ended);
-                some = omega arith;
               }

@@ -1,17 +1,13 @@
 -- The nodes of a negation are those of the tree, opposed: negation turns each node and moves none. So trees whose nodes were copied stand
 -- in the copy as they are, and trees whose nodes were copied opposed stand there negated.
-use Prim.Native.Nat.{ℕ, suc, ◌+◌, ◌<◌, ◌≤◌}
-use mathlib.Core.Path.{◌≡◌, refl, sym, ap, ap₂, ◌∙◌}
-use mathlib.Core.List.{List}
+use Prim.Native.Nat.{ℕ, suc, ◌+◌, ◌<◌}
+use mathlib.Core.Path.{◌≡◌, refl, ap, ap₂, ◌∙◌}
 use mathlib.Core.Bool.{Bool, true, false, not, cond}
 use native.Mathlib.Omega.{arith}
-use native.Mathlib.Decide.{ℕ_discrete}
-use lib.ListN.{length, get_or, set, length-set}
-use lib.Seq.{get_or-set_same, get_or-set_other}
 use Rattle.condition.specs.Meaning.{End, opposite, Join, all, any, other, Tree, plain, leaf, join, Forest, none, more, count, negate, negate_all}
 use Rattle.nodes.specs.declared.Node.{Node}
 use Rattle.nodes.specs.declared.Node.TheVariants as node
-use Rattle.nodes.specs.Memory.{node_of, node_at, opposed}
+use Rattle.nodes.specs.Memory.{opposed}
 use Rattle.nodes.specs.Laid.{is_all, flag_end, bound_end, EndIs, nodes, nodes_all, Laid, LaidAll}
 use Rattle.nodes.proofs.Laws.{move_all}
 use Rattle.asking.specs.Asked.{turned, star_all, NegatesAll, Stars}
@@ -80,43 +76,24 @@ pub star_count : (j : Join) (ts : Forest) → count (star_all j ts) ≡ count ts
 star_count all ts = refl
 star_count any ts = negate_count ts
 
--- ---- the loop of `copy`
-
-pub record Copied (s : List ℕ) (i n : ℕ) (o₀ o : List ℕ) (k : ℕ) : Type 0 where
-  pub upto : k ≤ n
-  pub long : length o ≡ length o₀
-  pub copied : (x : ℕ) → x < k → get_or o x 0 ≡ get_or s (i + x) 0
-
-pub copied_none : {s : List ℕ} {i n : ℕ} {o : List ℕ} → Copied s i n o o 0
-copied_none = record { upto = omega arith; long = refl; copied = λ x lt. absurd (omega arith) }
-
-pub copied_more : {s : List ℕ} {i n : ℕ} {o₀ o o' : List ℕ} {k w : ℕ} → n ≤ length o₀ → k < n → w ≡ get_or s (i + k) 0 →
-    o' ≡ set o k w → Copied s i n o₀ o k → Copied s i n o₀ o' (k + 1)
-copied_more {s} {i} {n} {o₀} {o} {o'} {k} {w} h lt is e c = record {
-  upto = omega arith;
-  long = ap length e ∙ length-set o k w ∙ c.long;
-  copied = λ x l. elim (ℕ_discrete x k) [
-    | yes same ↦ ap (λ y. get_or y x 0) e ∙ ap (λ y. get_or (set o k w) y 0) same ∙ get_or-set_same o k w 0 (omega (arith, c.long)) ∙ is ∙ ap
-        (λ y. get_or s (i + y) 0) (sym same)
-    | no ne ↦ ap (λ y. get_or y x 0) e ∙ get_or-set_other o k x w 0 ne ∙ c.copied x (omega arith)
-  ];
-}
-
 -- ---- `star`
 
-module _ (s : List ℕ) (i size : ℕ) (a : Bool) (depth : ℕ) (o : List ℕ) where
-  -- below an `and`: the words were copied
-  pub stars_copied : a ≡ true → ((x : ℕ) → x < size → get_or o x 0 ≡ get_or s (i + x) 0) → Stars (node_at s) i size a depth (node_at o)
-  stars_copied and c = rw and (record {
-    right = λ ts l e d.
-        move_all ts (node_at s) (node_at o) i 0 (λ x lt. ap node_of (ap (λ y. get_or o y 0) (omega arith) ∙ c x (omega arith))) l;
-  })
+module _ (n : ℕ → Node) (size : ℕ) (a : Bool) (depth : ℕ) (o : ℕ → Node) where
+  -- below an `and`: the nodes were copied
+  pub stars_copied : a ≡ true → ((x : ℕ) → x < size → o x ≡ n x) → Stars n size a depth o
+  stars_copied and c = rw and (record { right = λ ts l e d. move_all ts n o 0 0 (λ x lt. at x (c x (omega arith))) l })
+    where
+      at : (x : ℕ) → o x ≡ n x → o (0 + x) ≡ n (0 + x)
+      at x h = ap o (omega arith) ∙ h ∙ ap n (omega arith)
 
   -- below an `or`: they were opposed
-  pub stars_negated : a ≡ false → NegatesAll (node_at s) i size depth (node_at o) → Stars (node_at s) i size a depth (node_at o)
+  pub stars_negated : a ≡ false → NegatesAll n size depth o → Stars n size a depth o
   stars_negated or g = rw or (record {
     right = λ ts l e d.
-        move_all (negate_all ts) (λ x. opposed (node_at s x)) (node_at o) i 0
-        (λ x lt. ap (node_at o) (omega arith) ∙ g.right ts l e d x (omega (arith, negate_nodes_all ts)))
-        (negate_laid_all ts (node_at s) i l);
+        move_all (negate_all ts) (λ x. opposed (n x)) o 0 0
+        (λ x lt. at x (g.right ts l e d x (omega (arith, negate_nodes_all ts))))
+        (negate_laid_all ts n 0 l);
   })
+    where
+      at : (x : ℕ) → o x ≡ opposed (n x) → o (0 + x) ≡ opposed (n (0 + x))
+      at x h = ap o (omega arith) ∙ h ∙ ap (λ y. opposed (n y)) (omega arith)

@@ -1,17 +1,17 @@
 // Writes the question about an end: its critical constraint and the end or its opposite, as one `and`. The constraint is gathered by
 // recursion down the path to the end, and a sibling below an `or` is negated by recursion down its own paths; what falls is how many
-// connectives may still nest. Where a contract asks that a node's place and a count stay within the room, that keeps every sum from wrapping.
+// connectives may still nest. A part is handed on as the rest of the nodes, and as much of the output as it has nodes.
 #![tactic(auto)]
 
-ghost use Rattle.std.specs.Prelude.{◌≡◌, ℕ, ◌+◌, ◌≤◌, ◌<◌, length, get_or};
-ghost use Rattle.condition.specs.Limits.{question_room};
-ghost use Rattle.nodes.specs.Memory.{node_of, node_at};
-ghost use Rattle.asking.specs.Asked.{turned, one_end, ends_from, Negates, NegatesAll, Stars, Sought, Siblings, Gathers, Asks, Lives};
+ghost use Rattle.std.specs.Prelude.{◌≡◌, ℕ, ◌+◌, ◌≤◌, ◌<◌, length};
+ghost use Rattle.nodes.specs.Memory.{node_at};
+ghost use Rattle.asking.specs.Asked.{turned, is_end, ends_from, Negates, NegatesAll, Stars, Seeks, Siblings, MayGather, Asks, Lives};
 
 use condition::{DEEPEST, QUESTION_ROOM};
-use nodes::{Node, node_at, opposed_word, put_node, size_at, word_at};
+use nodes::{Node, node_at, put_node, size_at};
 
-// The tree that stands from node `at` on, in `size` nodes, and the end of it that is asked about, counted from 0.
+// Of trees that stand one after the other, the one that has the end asked about: it stands after `at` nodes, in `size` nodes, and `end` is
+// that end among its own, counted from 0.
 #[derive(Clone, Copy)]
 struct Place {
     at: usize,
@@ -23,213 +23,182 @@ struct Place {
 #[derive(Clone, Copy)]
 struct Wrote {
     size: usize,
-    trees: u32,
+    trees: usize,
 }
 
-// The n nodes from i on, to the start of the output.
-fn copy(ns: &[u64], i: usize, n: usize, out: &mut [u64])
-    requires { (i + n ≤ question_room) × (n ≤ length out.old) }
-    ensures { (x : ℕ) → x < n → get_or out.new x 0 ≡ get_or ns.now (i + x) 0 }
+// The nodes from i on; past the end there are none, and each reads as plain false.
+fn rest(ns: &[Node], i: usize) -> &[Node]
+    ensures { (x : ℕ) → node_at result.now x ≡ node_at ns.now (i + x) }
 {
-    let mut k = 0;
-    while k < n {
-        out[k] = word_at(ns, i + k);
-        k += 1;
+    &ns[i.min(ns.len())..]
+}
+
+// The first nodes, as many as the output has.
+fn copy(ns: &[Node], out: &mut [Node])
+    ensures { (x : ℕ) → x < length out.old → node_at out.new x ≡ node_at ns.now x }
+{
+    for (k, o) in out.iter_mut().enumerate() {
+        *o = node_at(ns, k);
     }
 }
 
-// The negation of the tree in the n nodes from i on, to the start of the output.
+// The negation of the tree in the first nodes, as many as the output has.
 #[cycle(negate_negate_all)]
-fn negate(ns: &[u64], i: usize, n: usize, depth: u32, out: &mut [u64])
-    requires { (i + n ≤ question_room) × (n ≤ length out.old) × (1 ≤ n) }
-    ensures { Negates (node_at ns.now) i n depth (node_at out.new) }
+fn negate(ns: &[Node], depth: u32, out: &mut [Node])
+    requires { 1 ≤ length out.old }
+    ensures { Negates (node_at ns.now) (length out.old) depth (node_at out.new) }
 {
-    out[0] = opposed_word(word_at(ns, i));
+    out[0] = node_at(ns, 0).opposed();
     if 0 < depth {
-        negate_all(ns, i + 1, n - 1, depth - 1, &mut out[1..]);
+        negate_all(rest(ns, 1), depth - 1, &mut out[1..]);
     }
 }
 
-// The negations of the trees in the n nodes from i on.
+// The negations of the trees in the first nodes, as many as the output has.
 #[cycle(negate_negate_all)]
-fn negate_all(ns: &[u64], i: usize, n: usize, depth: u32, out: &mut [u64])
-    requires { (i + n ≤ question_room) × (n ≤ length out.old) }
-    ensures { NegatesAll (node_at ns.now) i n depth (node_at out.new) }
+fn negate_all(ns: &[Node], depth: u32, out: &mut [Node])
+    ensures { NegatesAll (node_at ns.now) (length out.old) depth (node_at out.new) }
 {
     let mut k = 0;
-    while k < n {
-        let s = size_at(ns, i + k);
-        if n - k < s {
+    // no `for`: a step is as long as a tree
+    while k < out.len() {
+        let s = size_at(ns, k);
+        if out.len() - k < s {
             return;
         }
-        negate(ns, i + k, s, depth, &mut out[k..]);
+        negate(rest(ns, k), depth, &mut out[k..k + s]);
         k += s;
     }
 }
 
-// The trees in the n nodes from i on as a sibling of theirs has them in its constraint: as they are below an `and`, negated below an `or`.
-fn star(ns: &[u64], i: usize, n: usize, all: bool, depth: u32, out: &mut [u64])
-    requires { (i + n ≤ question_room) × (n ≤ length out.old) }
-    ensures { Stars (node_at ns.now) i n all depth (node_at out.new) }
+// The trees in the first nodes, as many as the output has, as a sibling of theirs has them in its constraint: as they are below an `and`,
+// negated below an `or`.
+fn star(ns: &[Node], all: bool, depth: u32, out: &mut [Node])
+    ensures { Stars (node_at ns.now) (length out.old) all depth (node_at out.new) }
 {
     if all {
-        copy(ns, i, n, out);
+        copy(ns, out);
     } else {
-        negate_all(ns, i, n, depth, out);
+        negate_all(ns, depth, out);
     }
 }
 
-fn one_end(n: Node) -> usize
-    ensures { result ≡ one_end n }
+fn is_end(n: Node) -> bool
+    ensures { result ≡ is_end n }
 {
-    match n {
-        Node::Plain(_) => 0,
-        Node::Join(_, _, _) => 0,
-        Node::Flag(_, _) => 1,
-        Node::Bound(_, _, _, _) => 1,
-    }
+    matches!(n, Node::Flag(_, _) | Node::Bound(_, _, _, _))
 }
 
-// How many ends the n nodes from i on have.
-fn ends(ns: &[u64], i: usize, n: usize) -> usize
-    requires { i + n ≤ question_room }
-    ensures { result ≡ ends_from (node_at ns.now) i n }
+// How many ends the first n nodes have.
+fn ends(ns: &[Node], n: usize) -> usize
+    ensures { result ≡ ends_from (node_at ns.now) 0 n }
 {
-    let mut e: usize = 0;
-    let mut k = 0;
-    while k < n {
-        e += one_end(node_at(ns, i + k));
-        k += 1;
+    let mut e = 0;
+    for k in 0..n {
+        e += usize::from(is_end(node_at(ns, k)));
     }
     e
 }
 
-// Of the trees from node i up to `last`, the one that has their end m. Where no tree is laid out, it may have no node.
-fn seek(ns: &[u64], i: usize, last: usize, m: usize) -> Place
-    requires { (i ≤ last) × (last ≤ question_room) }
-    ensures { Sought (node_at ns.now) i last m result.at result.size result.end }
+// Of the trees in the first n nodes, the one that has their end m.
+fn seek(ns: &[Node], n: usize, m: usize) -> Option<Place>
+    ensures { Seeks (node_at ns.now) n m result }
 {
-    let mut at = i;
+    let mut at = 0;
     let mut end = m;
-    while at < last {
+    // no `for`: a step is as long as a tree
+    while at < n {
         let s = size_at(ns, at);
-        if last - at < s {
-            return Place {
-                at: at,
-                size: 0,
-                end: 0,
-            };
+        if n - at < s {
+            return None;
         }
-        let e = ends(ns, at, s);
+        let e = ends(rest(ns, at), s);
         if end < e {
-            return Place {
-                at: at,
-                size: s,
-                end: end,
-            };
+            return Some(Place { at, size: s, end });
         }
         at += s;
         end -= e;
     }
-    Place {
-        at: at,
-        size: 0,
-        end: 0,
-    }
+    None
 }
 
-// The siblings of the tree c in the n nodes from i on, starred: the elder, then the younger.
-fn siblings(ns: &[u64], i: usize, n: usize, c: Place, all: bool, depth: u32, out: &mut [u64])
-    requires { (i + n ≤ question_room) × (n ≤ length out.old) × (i ≤ c.at) × (c.at + c.size ≤ i + n) }
-    ensures { Siblings (node_at ns.now) i n c.at c.size all depth (node_at out.new) }
+// The siblings of the tree c, starred: the elder, then the younger, in all as many nodes as the output has.
+fn siblings(ns: &[Node], c: Place, all: bool, depth: u32, out: &mut [Node])
+    requires { c.at ≤ length out.old }
+    ensures { Siblings (node_at ns.now) c (length out.old) all depth (node_at out.new) }
 {
-    let elder = c.at - i;
-    let next = c.at + c.size;
-    star(ns, i, elder, all, depth, out);
-    star(ns, next, i + n - next, all, depth, &mut out[elder..]);
+    let younger = rest(rest(ns, c.at), c.size);
+    star(ns, all, depth, &mut out[..c.at]);
+    star(younger, all, depth, &mut out[c.at..]);
 }
 
-// A node's word, or (true) that of the same node of the negation.
-fn turn(opposite: bool, w: u64) -> u64
-    ensures { node_of result ≡ turned opposite (node_of w) }
+// A node, or (true) the same node of the negation.
+fn turn(n: Node, opposite: bool) -> Node
+    ensures { result ≡ turned opposite n }
 {
-    if opposite { opposed_word(w) } else { w }
+    if opposite { n.opposed() } else { n }
 }
 
-// What the question asks of the tree of p: of a connective the siblings of the child that has the end, then what it asks of that child.
-fn gather(ns: &[u64], p: Place, depth: u32, opposite: bool, out: &mut [u64]) -> Wrote
-    requires { (p.at + p.size ≤ question_room) × (p.size ≤ length out.old) }
-    ensures { Gathers (node_at ns.now) p.at p.size p.end depth opposite (node_at out.new) result.size result.trees }
+// What the question asks of the tree in the first nodes, as many as the output has, and of its end: of a connective the siblings of the
+// child that has the end, then what it asks of that child. None where there is no such end.
+fn gather(ns: &[Node], end: usize, depth: u32, opposite: bool, out: &mut [Node]) -> Option<Wrote>
+    requires { 1 ≤ length out.old }
+    ensures { MayGather (node_at ns.now) (length out.old) end depth opposite (node_at out.new) result }
 {
-    let i = p.at;
-    let n = p.size;
-    if n == 0 {
-        return Wrote { size: 0, trees: 0 };
-    }
-    match node_at(ns, i) {
-        Node::Plain(_) => Wrote { size: 0, trees: 0 },
+    match node_at(ns, 0) {
+        Node::Plain(_) => None,
         Node::Join(all, k, _) => {
-            let c = seek(ns, i + 1, i + n, p.end);
-            let others = n - 1 - c.size;
-            if depth == 0 {
-                return Wrote { size: 0, trees: 0 };
+            let below = rest(ns, 1);
+            let c = seek(below, out.len() - 1, end)?;
+            let others = out.len() - 1 - c.size;
+            let trees = k.checked_sub(1)? as usize;
+            let deep = depth.checked_sub(1)?;
+            if others < trees {
+                return None;
             }
-            if k == 0 {
-                return Wrote { size: 0, trees: 0 };
-            }
-            if others < (k - 1) as usize {
-                return Wrote { size: 0, trees: 0 };
-            }
-            siblings(ns, i + 1, n - 1, c, all, depth - 1, out);
-            let r = gather(ns, c, depth - 1, opposite, &mut out[others..]);
-            Wrote {
+            siblings(below, c, all, deep, &mut out[..others]);
+            let r = gather(
+                rest(below, c.at),
+                c.end,
+                deep,
+                opposite,
+                &mut out[others..others + c.size],
+            )?;
+            Some(Wrote {
                 size: others + r.size,
-                trees: k - 1 + r.trees,
-            }
+                trees: trees + r.trees,
+            })
         }
-        Node::Flag(_, _) => {
-            out[0] = turn(opposite, word_at(ns, i));
-            Wrote { size: 1, trees: 1 }
-        }
-        Node::Bound(_, _, _, _) => {
-            out[0] = turn(opposite, word_at(ns, i));
-            Wrote { size: 1, trees: 1 }
+        n => {
+            out[0] = turn(n, opposite);
+            Some(Wrote { size: 1, trees: 1 })
         }
     }
 }
 
-// The question about end m, counted from 0, of the tree in the first n nodes, or (true) about its opposite: its nodes are counted.
+// The question about end m, counted from 0, of the tree from node 0 on, or (true) about its opposite: its nodes are counted.
 // Without room for one node more than the tree's, nothing is written.
-pub fn ask(ns: &[u64], n: usize, m: usize, opposite: bool, out: &mut [u64]) -> usize
-    ensures { Asks (node_at ns.now) n m opposite out.old result out.new }
+pub fn ask(ns: &[Node], m: usize, opposite: bool, out: &mut [Node]) -> usize
+    ensures { Asks (node_at ns.now) m opposite out.old result out.new }
 {
-    if QUESTION_ROOM <= n {
+    let n = size_at(ns, 0);
+    if QUESTION_ROOM <= n || out.len() <= n {
         return 0;
     }
-    if out.len() <= n {
+    let Some(r) = gather(ns, m, DEEPEST, opposite, &mut out[1..n + 1]) else {
         return 0;
-    }
-    let r = gather(
-        ns,
-        Place {
-            at: 0,
-            size: n,
-            end: m,
-        },
-        DEEPEST,
-        opposite,
-        &mut out[1..],
-    );
-    put_node(out, 0, Node::Join(true, r.trees, r.size as u32));
+    };
+    put_node(out, 0, Node::Join(true, r.trees as u32, r.size as u32));
     r.size + 1
 }
 
-// How many ends the tree in the first n nodes has, constants aside; at most n.
-pub fn live(ns: &[u64], n: usize) -> usize
-    ensures { Lives (node_at ns.now) n result }
+// How many ends the tree from node 0 on has, constants aside.
+pub fn live(ns: &[Node]) -> usize
+    ensures { Lives (node_at ns.now) result }
 {
+    let n = size_at(ns, 0);
     if QUESTION_ROOM < n {
         return 0;
     }
-    ends(ns, 0, n)
+    ends(ns, n)
 }

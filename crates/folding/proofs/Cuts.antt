@@ -1,68 +1,76 @@
--- The cut that is handed from child to child is the replacement that callers think of. A cut of 0 or past a tree's ends leaves the
+-- The cut that is handed from child to child is the replacement that callers think of. No cut, or one past a tree's ends, leaves the
 -- tree as it is; so of the children only the one that has the end is changed, as in `put`.
-use Prim.Native.Nat.{ℕ, zero, suc, ◌+◌, ◌-◌, ◌≤◌, ◌<◌}
-use mathlib.Core.Path.{◌≡◌, refl, ap, ap₂, ◌∙◌}
-use mathlib.Core.Bool.{Bool, true, false, cond}
+use Prim.Native.Nat.{ℕ, ◌+◌, ◌-◌, ◌≤◌, ◌<◌}
+use mathlib.Core.Path.{◌≡◌, refl, ap, ap₂}
+use mathlib.Core.Bool.{Bool}
 use native.Mathlib.Omega.{arith}
-use lib.Dec.{ltb}
-use borrow.Author.Tests.{eq-eqb, ne_eqb, ltb-true, ltb-false}
+use borrow.Author.Tests.{eq-eqb, ne_eqb, lt-ltb, le-ltb}
+use Rattle.std.proofs.Common.{Option, Some, None}
 use Rattle.condition.specs.Meaning.{Tree, plain, leaf, join, Forest, none, more}
 use Rattle.condition.specs.Folding.{live, live_all}
 use Rattle.condition.specs.Critical.{put, put_in}
-use Rattle.folding.specs.Folded.{cut_at}
-use Rattle.folding.specs.Parts.{cut, cut_all}
+use Rattle.condition.proofs.Putting.{split}
+use Rattle.folding.specs.declared.Cut.{Cut}
+use Rattle.folding.specs.Folded.{cut_at, Has}
+use Rattle.folding.specs.Parts.{past, cut, cut_all}
 
--- for callers: the end i, counted from 0, is end i + 1
-pub cut_at_put : (t : Tree) (i : ℕ) (b : Bool) → cut_at t (i + 1) b ≡ put t i (plain b)
-cut_at_put t i b = let e : i + 1 ≡ suc i = omega arith in rw e
+-- past a ends and then b
+pub past_more : (a b : ℕ) (x : Option Cut) → past b (past a x) ≡ past (a + b) x
+past_more a b None = refl
+past_more a b (Some c) = split c.end a
+    (λ l q. rw (q, lt-ltb c.end (a + b) (omega arith)) refl)
+    (λ l q. split c.end (a + b)
+    (λ m r. rw (q, r, lt-ltb (c.end - a) b (omega arith)) refl)
+    (λ m r. let e : c.end - a - b ≡ c.end - (a + b) = omega arith in rw (q, r, le-ltb (c.end - a) b (omega arith), e) refl))
 
--- i is less than n or not
-split : (A : Bool → Type 0) (i n : ℕ) → (i < n → A true) → (n ≤ i → A false) → A (ltb i n)
-split A i n f g = by (ltb i n) refl
-  where
-    by : (c : Bool) → ltb i n ≡ c → A c
-    by true e = f (ltb-true i n e)
-    by false e = g (ltb-false i n e)
+-- past none
+pub past_none : (x : Option Cut) → past 0 x ≡ x
+past_none None = refl
+past_none (Some c) = let e : c.end - 0 ≡ c.end = omega arith in rw (le-ltb c.end 0 (omega arith), e) refl
 
 mutual
   unfolding cut
 
-  cut_none : (t : Tree) (b : Bool) → cut t 0 b ≡ t
-  cut_none (plain c) b = refl
-  cut_none (leaf e) b = refl
-  cut_none (join j ts) b = ap (join j) (cut_all_none ts 0 b refl)
+  cut_none : (t : Tree) → cut t None ≡ t
+  cut_none (plain c) = refl
+  cut_none (leaf e) = refl
+  cut_none (join j ts) = ap (join j) (cut_all_none ts)
 
-  cut_all_none : (ts : Forest) (m : ℕ) (b : Bool) → m ≡ 0 → cut_all ts m b ≡ ts
-  cut_all_none none m b z = refl
-  cut_all_none (more t ts) m b z = ap₂ more (ap (λ x. cut t x b) z ∙ cut_none t b) (cut_all_none ts (m - live t) b (omega arith))
+  cut_all_none : (ts : Forest) → cut_all ts None ≡ ts
+  cut_all_none none = refl
+  cut_all_none (more t ts) = ap₂ more (cut_none t) (cut_all_none ts)
 
-mutual
-  unfolding cut live
+module _ (b : Bool) where
+  abbrev at : ℕ → Option Cut
+  at i = Some (record { end = i; to = b })
 
-  cut_past : (t : Tree) (m : ℕ) (b : Bool) → live t < m → cut t m b ≡ t
-  cut_past (plain c) m b h = refl
-  cut_past (leaf e) m b h = let apart : m ≡ 1 → ⊥ = λ q. omega arith in simp (ne_eqb _ _ apart)
-  cut_past (join j ts) m b h = ap (join j) (cut_all_past ts m b h)
+  mutual
+    unfolding cut live
 
-  cut_all_past : (ts : Forest) (m : ℕ) (b : Bool) → live_all ts < m → cut_all ts m b ≡ ts
-  cut_all_past none m b h = refl
-  cut_all_past (more t ts) m b h = ap₂ more (cut_past t m b (omega arith)) (cut_all_past ts (m - live t) b (omega arith))
+    cut_past : (t : Tree) (i : ℕ) → live t ≤ i → cut t (at i) ≡ t
+    cut_past (plain c) i h = refl
+    cut_past (leaf e) i h = let apart : i ≡ 0 → ⊥ = λ q. omega arith in simp (ne_eqb _ _ apart)
+    cut_past (join j ts) i h = ap (join j) (cut_all_past ts i h)
 
-mutual
-  unfolding cut live put
+    cut_all_past : (ts : Forest) (i : ℕ) → live_all ts ≤ i → cut_all ts (at i) ≡ ts
+    cut_all_past none i h = refl
+    cut_all_past (more t ts) i h =
+        rw (le-ltb i (live t) (omega arith)) (ap₂ more (cut_past t i (omega arith)) (cut_all_past ts (i - live t) (omega arith)))
 
-  cut_put : (t : Tree) (i : ℕ) (b : Bool) → i < live t → cut t (suc i) b ≡ put t i (plain b)
-  cut_put (plain c) i b h = refl
-  cut_put (leaf e) i b h = let first : suc i ≡ 1 = omega arith in simp (eq-eqb _ _ first)
-  cut_put (join j ts) i b h = ap (join j) (cut_all_put ts (suc i) i b refl h)
+  mutual
+    unfolding cut live put
 
-  cut_all_put : (ts : Forest) (m i : ℕ) (b : Bool) → m ≡ suc i → i < live_all ts → cut_all ts m b ≡ put_in ts i (plain b)
-  cut_all_put none m i b q h = refl
-  cut_all_put (more t ts) m i b q h =
-      split (λ c. cut_all (more t ts) m b ≡ cond c (more (put t i (plain b)) ts) (more t (put_in ts (i - live t) (plain b)))) i (live t)
-      (λ l. ap₂ more (ap (λ x. cut t x b) q ∙ cut_put t i b l) (cut_all_none ts (m - live t) b (omega arith)))
-      (λ l. ap₂ more (cut_past t m b (omega arith)) (cut_all_put ts (m - live t) (i - live t) b (omega arith) (omega arith)))
+    cut_put : (t : Tree) (i : ℕ) → i < live t → cut t (at i) ≡ put t i (plain b)
+    cut_put (plain c) i h = refl
+    cut_put (leaf e) i h = let first : i ≡ 0 = omega arith in simp (eq-eqb _ _ first)
+    cut_put (join j ts) i h = ap (join j) (cut_all_put ts i h)
 
-pub cut_is : (t : Tree) (m : ℕ) (b : Bool) → m ≤ live t → cut t m b ≡ cut_at t m b
-cut_is t zero b h = cut_none t b
-cut_is t (suc i) b h = cut_put t i b (omega arith)
+    cut_all_put : (ts : Forest) (i : ℕ) → i < live_all ts → cut_all ts (at i) ≡ put_in ts i (plain b)
+    cut_all_put none i h = refl
+    cut_all_put (more t ts) i h = split i (live t)
+        (λ l q. rw q (ap₂ more (cut_put t i l) (cut_all_none ts)))
+        (λ l q. rw q (ap₂ more (cut_past t i l) (cut_all_put ts (i - live t) (omega arith))))
+
+pub cut_is : (t : Tree) (x : Option Cut) → Has t x → cut t x ≡ cut_at t x
+cut_is t None h = cut_none t
+cut_is t (Some c) h = cut_put c.to t c.end h

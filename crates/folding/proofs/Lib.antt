@@ -1,5 +1,4 @@
 -- Laws of folding over nodes, and of the cut for the crates above.
 pub mod Cuts
-pub mod Sliding
 pub mod Puts
 pub mod Walk

@@ -1,62 +1,49 @@
--- What `end` and `shut` put at j. A node put is found again and leaves the nodes before it; an end is kept or becomes the constant;
--- of a connective's children that are left there are none, one, which moves to j, or more, which stay after the connective's node.
-use Prim.Native.Nat.{ℕ, ◌+◌, ◌-◌, ◌<◌}
-use mathlib.Core.Path.{◌≡◌, refl, sym, ap, ◌∙◌}
+-- What `end` and `shut` put. An end is kept or becomes the constant; of a connective's children that are left there are none, one, which
+-- moves to node 0, or more, which stay after the connective's node.
+use Prim.Native.Nat.{ℕ, ◌+◌, ◌<◌, ◌≤◌}
+use mathlib.Core.Path.{◌≡◌, refl, sym, subst, ap, ◌∙◌}
 use mathlib.Core.List.{List}
-use mathlib.Core.Bool.{Bool, true, false, cond, not, false≢true}
+use mathlib.Core.Bool.{Bool, true, false, not}
 use native.Mathlib.Omega.{arith}
-use lib.ListN.{length, get_or, set}
-use borrow.Author.Tests.{eq-eqb, ne_eqb}
+use borrow.Author.Rules.{rules}
+use lib.ListN.{length, set}
+use Rattle.std.specs.List.{copy_within}
+use Rattle.std.proofs.Common.{Option, Some, None}
+use Rattle.std.proofs.lemmas.List.{places}
 use Rattle.condition.specs.Meaning.{unit, plain, none, more}
 use Rattle.condition.specs.Folding.{Left, decided, these, close}
 use Rattle.nodes.specs.declared.Node.{Node}
 use Rattle.nodes.specs.declared.Node.TheVariants as node
-use Rattle.nodes.specs.Memory.{node_of, word_of, node_at, Fits}
+use Rattle.nodes.specs.Memory.{node_at}
 use Rattle.nodes.specs.Laid.{join_of, nodes, Laid}
 use Rattle.nodes.proofs.Memory.{put_here, put_other}
 use Rattle.nodes.proofs.Laws.{is_all_join_of, tell, move, move_all}
+use Rattle.folding.specs.declared.Cut.{Cut}
 use Rattle.folding.specs.declared.Kid.{Kid}
-use Rattle.folding.specs.declared.Kids.{Kids}
-use Rattle.folding.specs.Parts.{cut, Slid, Before, KidIs, Leaves, EndRight, ShutRight}
+use Rattle.folding.specs.declared.Kept.{Kept}
+use Rattle.folding.specs.Parts.{past, first_cut, end_or, KidIs, Leaves, EndRight, ShutRight}
 
--- ---- a node put at j
+pub constant_put : (o : List Node) (b : Bool) → 1 ≤ length o →
+    KidIs (node_at (set o 0 (node.Plain b))) (plain b) (record { constant = Some b; size = 1 })
+unfolding Laid nodes
+constant_put o b room = record { laid = put_here o 0 (node.Plain b) room; sized = refl; sorted = refl }
 
-module _ (o₀ o : List ℕ) (j : ℕ) (k : Node) (put : o ≡ set o₀ j (word_of k)) where
-  top : j < length o₀ → Fits k → node_at o j ≡ k
-  top room f = ap (λ x. node_at x j) put ∙ put_here o₀ j k room f
+-- ---- an end
 
-  others : (x : ℕ) → (x ≡ j → ⊥) → node_at o x ≡ node_at o₀ x
-  others x h = ap (λ l. node_at l x) put ∙ put_other o₀ j x k h
+module _ (n : Node) (x y : Option Cut) (goes : y ≡ past 1 x) where
+  pub end_cut : (o : ℕ → Node) (b : Bool) (r : Kid) → Some b ≡ first_cut x → KidIs o (plain b) r → EndRight n x y o r
+  unfolding nodes
+  end_cut o b r e k = record { small = k.sized; goes = goes; is = λ d h. subst (λ z. KidIs o (end_or d z) r) e k }
 
-  pub before : Before j o₀ o
-  before x lt = others x (λ e. omega arith)
-
-module _ (o₀ o : List ℕ) (j : ℕ) (room : j < length o₀) where
-  pub constant : (b : Bool) (m s : ℕ) → o ≡ set o₀ j (word_of (node.Plain b)) → s ≡ cond b 1 0 →
-      KidIs o j (plain b) m (record { kind = s; size = 1; cut = m })
+  pub end_kept : (o : List Node) → None ≡ first_cut x → 1 ≤ length o →
+      EndRight n x y (node_at (set o 0 n)) (record { constant = None; size = 1 })
   unfolding Laid nodes
-  constant b m s put q = record { laid = top o₀ o j (node.Plain b) put room tt; sized = refl; sorted = q; goes = refl }
-
-  -- ---- an end
-
-  pub end_cut : (n : Node) (m : ℕ) (b : Bool) (s : ℕ) → m ≡ 1 → o ≡ set o₀ j (word_of (node.Plain b)) → s ≡ cond b 1 0 →
-      EndRight n m b o₀ o j (record { kind = s; size = 1; cut = 0 })
-  unfolding cut
-  end_cut n m b s z put q = record {
+  end_kept o e room = record {
     small = refl;
-    kept = before o₀ o j (node.Plain b) put;
-    is = λ e h f. let last : 0 ≡ m - 1 = omega arith in rw (eq-eqb m 1 z, ← last) (constant b 0 s put q);
-  }
-
-  pub end_kept : (n : Node) (m : ℕ) (b : Bool) (d : ℕ) → (m ≡ 1 → ⊥) → o ≡ set o₀ j (word_of n) → d ≡ m - 1 →
-      EndRight n m b o₀ o j (record { kind = 2; size = 1; cut = d })
-  unfolding cut Laid nodes
-  end_kept n m b d z put q = record {
-    small = refl;
-    kept = before o₀ o j n put;
-    is = λ e h f.
-        rw (ne_eqb m 1 z)
-        (record { laid = tell (sym (top o₀ o j n put room f)) e h; sized = refl; sorted = refl; goes = q });
+    goes = goes;
+    is = λ d h.
+        subst (λ z. KidIs (node_at (set o 0 n)) (end_or d z) (record { constant = None; size = 1 })) e
+        (record { laid = tell (sym (put_here o 0 n room)) d h; sized = refl; sorted = refl });
   }
 
 -- ---- a connective
@@ -65,75 +52,77 @@ unit_is : (b : Bool) → unit (join_of b) ≡ b
 unit_is true = refl
 unit_is false = refl
 
-never : {A : Type 0} {b : Bool} → b ≡ true → b ≡ false → A
-never p q = absurd (false≢true (sym q ∙ p))
+-- one of the children decides
+pub shut_decided : (every : Bool) (kept : Option Kept) (n o : ℕ → Node) (r : Kid) → kept ≡ None → KidIs o (plain (not every)) r →
+    ShutRight every kept n o r
+unfolding nodes
+shut_decided every kept n o r e k =
+    rw e (record { small = omega (arith, k.sized); is = by })
+  where
+    by : (l : Left) → Leaves l n 1 None → KidIs o (close (join_of every) l) r
+    by decided h = rw (unit_is every) k
+    by (these us) h = absurd h
 
-module _ (every : Bool) (kids : Kids) (o₀ o : List ℕ) (j : ℕ) (room : j < length o₀) where
-  abbrev Closes : Left → Kid → Type 0
-  Closes l r = Leaves l o₀ (j + 1) kids → KidIs o j (close (join_of every) l) kids.cut r
-
-  pub shut_decided : (s : ℕ) → kids.decided ≡ true → o ≡ set o₀ j (word_of (node.Plain (not every))) → s ≡ cond (not every) 1 0 →
-      ShutRight every kids o₀ o j (record { kind = s; size = 1; cut = kids.cut })
-  shut_decided s g put q = record { small = omega arith; kept = before o₀ o j (node.Plain (not every)) put; is = by }
+module _ (every : Bool) (kept : Option Kept) (left : Kept) (is : kept ≡ Some left) where
+  pub shut_none : (n o : ℕ → Node) (r : Kid) → left.count ≡ 0 → KidIs o (plain every) r → ShutRight every kept n o r
+  unfolding nodes
+  shut_none n o r z k = rw is (record { small = omega (arith, k.sized); is = by })
     where
-      by : (l : Left) → Closes l (record { kind = s; size = 1; cut = kids.cut })
-      by decided h = rw (unit_is every) (constant o₀ o j room _ _ s put q)
-      by (these us) h = never g h.undecided
+      by : (l : Left) → Leaves l n 1 (Some left) → KidIs o (close (join_of every) l) r
+      by decided h = absurd h
+      by (these none) h = rw (unit_is every) k
+      by (these (more t us)) h = absurd (omega (arith, h.counted))
 
-  module _ (g : kids.decided ≡ false) where
-    pub shut_none : (s : ℕ) → kids.count ≡ 0 → o ≡ set o₀ j (word_of (node.Plain every)) → s ≡ cond every 1 0 →
-        ShutRight every kids o₀ o j (record { kind = s; size = 1; cut = kids.cut })
-    shut_none s z put q = record { small = omega arith; kept = before o₀ o j (node.Plain every) put; is = by }
-      where
-        by : (l : Left) → Closes l (record { kind = s; size = 1; cut = kids.cut })
-        by decided h = never h g
-        by (these none) h = rw (unit_is every) (constant o₀ o j room _ _ s put q)
-        by (these (more t us)) h = absurd (omega (arith, h.counted))
+  pub shut_one : (o : List Node) → left.count ≡ 1 → left.size < length o →
+      ShutRight every kept (node_at o) (node_at (copy_within o 1 (left.size + 1) 0)) (record { constant = None; size = left.size })
+  unfolding Laid nodes
+  shut_one o z room = rw is (record { small = omega arith; is = by })
+    where
+      moved : (x : ℕ) → x < left.size → node_at (copy_within o 1 (left.size + 1) 0) x ≡ node_at o (1 + x)
+      moved x lt = search (rules, places)
 
-    pub shut_one : kids.count ≡ 1 → Slid o₀ o j kids.size →
-        ShutRight every kids o₀ o j (record { kind = 2; size = kids.size; cut = kids.cut })
-    unfolding Laid nodes
-    shut_one z s = record { small = omega arith; kept = λ x lt. ap node_of (s.kept x lt); is = by }
-      where
-        by : (l : Left) → Closes l (record { kind = 2; size = kids.size; cut = kids.cut })
-        by decided h = never h g
-        by (these none) h = absurd (omega (arith, h.counted))
-        by (these (more t none)) h =
-            let size = h.sized in
-            record {
-              laid = move t (node_at o₀) (node_at o) (j + 1) j
-                  (λ k lt. ap node_of (s.moved k (omega arith) ∙ ap (λ x. get_or o₀ x 0) (omega arith))) h.laid.0;
-              sized = omega arith;
-              sorted = sym h.headed;
-              goes = refl;
-            }
-        by (these (more t (more u us))) h = absurd (omega (arith, h.counted))
+      by : (l : Left) → Leaves l (node_at o) 1 (Some left) →
+          KidIs (node_at (copy_within o 1 (left.size + 1) 0)) (close (join_of every) l) (record { constant = None; size = left.size })
+      by decided h = absurd h
+      by (these none) h = absurd (omega (arith, h.counted))
+      by (these (more t none)) h =
+          let size = h.sized in
+          record {
+            laid = move t (node_at o) (node_at (copy_within o 1 (left.size + 1) 0)) 1 0
+                (λ k lt. ap (node_at (copy_within o 1 (left.size + 1) 0)) (omega arith) ∙ moved k (omega arith)) h.laid.0;
+            sized = omega arith;
+            sorted = sym h.headed;
+          }
+      by (these (more t (more u us))) h = absurd (omega (arith, h.counted))
 
-    pub shut_more : (kids.count ≡ 0 → ⊥) → (kids.count ≡ 1 → ⊥) → kids.count < 256 → kids.size < 256 →
-        o ≡ set o₀ j (word_of (node.Join every kids.count kids.size)) →
-        ShutRight every kids o₀ o j (record { kind = 2; size = kids.size + 1; cut = kids.cut })
-    unfolding Laid nodes
-    shut_more z z1 few small put = record { small = omega arith; kept = before o₀ o j head put; is = by }
-      where
-        head : Node
-        head = node.Join every kids.count kids.size
+  pub shut_more : (o : List Node) → (left.count ≡ 0 → ⊥) → (left.count ≡ 1 → ⊥) → 1 ≤ length o →
+      ShutRight every kept (node_at o) (node_at (set o 0 (node.Join every left.count left.size)))
+      (record { constant = None; size = left.size + 1 })
+  unfolding Laid nodes
+  shut_more o z z1 room = rw is (record { small = omega arith; is = by })
+    where
+      head : Node
+      head = node.Join every left.count left.size
 
-        by : (l : Left) → Closes l (record { kind = 2; size = kids.size + 1; cut = kids.cut })
-        by decided h = never h g
-        by (these none) h = absurd (z h.counted)
-        by (these (more t none)) h = absurd (z1 h.counted)
-        by (these (more t (more u us))) h =
-            let size = h.sized in
-            let many = h.counted in
-            let is_all = is_all_join_of every in
-            let here : node_at o j ≡ node.Join every kids.count kids.size = top o₀ o j head put room (few, small) in
-            record {
-              laid = (
-                cc,
-                move_all (more t (more u us)) (node_at o₀) (node_at o) (j + 1) (j + 1)
-                    (λ k lt. others o₀ o j head put (j + 1 + k) (λ e. omega arith)) h.laid,
-              );
-              sized = omega arith;
-              sorted = refl;
-              goes = refl;
-            }
+      by : (l : Left) → Leaves l (node_at o) 1 (Some left) →
+          KidIs (node_at (set o 0 (node.Join every left.count left.size))) (close (join_of every) l)
+          (record { constant = None; size = left.size + 1 })
+      by decided h = absurd h
+      by (these none) h = absurd (z h.counted)
+      by (these (more t none)) h = absurd (z1 h.counted)
+      by (these (more t (more u us))) h =
+          let size = h.sized in
+          let many = h.counted in
+          let is_all = is_all_join_of every in
+          let here : node_at (set o 0 (node.Join every left.count left.size)) 0 ≡ node.Join every left.count left.size =
+          put_here o 0 (node.Join every left.count left.size) room in
+          record {
+            laid = (
+              cc,
+              move_all (more t (more u us)) (node_at o) (node_at (set o 0 (node.Join every left.count left.size))) 1 (0 + 1)
+                  (λ k lt. ap (node_at (set o 0 (node.Join every left.count left.size))) (omega arith) ∙
+                  put_other o 0 (1 + k) (node.Join every left.count left.size) (λ e. omega arith)) h.laid,
+            );
+            sized = omega arith;
+            sorted = refl;
+          }

@@ -1,237 +1,247 @@
 -- The walk, one law a way out. What the node at i says of the tree laid there gives the folded tree from what the calls below wrote;
--- where nothing is left, or a child is longer than what is left, no tree is laid that fits. A kept child stands before the others.
+-- where a child is longer than what is left, no tree is laid that fits. A kept child stands before the others.
 use Prim.Native.Nat.{ℕ, ◌+◌, ◌-◌, ◌≤◌, ◌<◌}
 use mathlib.Core.Path.{◌≡◌, refl, sym, subst, ap, ◌∙◌}
 use mathlib.Core.List.{List}
-use mathlib.Core.Bool.{Bool, true, false, cond}
+use mathlib.Core.Bool.{Bool, true, false, beq}
 use native.Mathlib.Omega.{arith}
-use lib.Dec.{eqb}
-use lib.ListN.{length, set}
-use Rattle.condition.specs.Meaning.{End, Join, Tree, plain, leaf, join, Forest, count}
+use lib.ListN.{length}
+use Rattle.std.proofs.Common.{Option, Some, None}
+use Rattle.condition.specs.Limits.{tree_room}
+use Rattle.condition.specs.Meaning.{End, Join, all, any, Tree, plain, leaf, join, Forest, none, more, count}
 use Rattle.condition.specs.Folding.{Left, decided, these, keep, drop, fold, fold_all, live, live_all}
 use Rattle.nodes.specs.declared.Node.{Node}
 use Rattle.nodes.specs.declared.Node.TheVariants as node
-use Rattle.nodes.specs.Memory.{word_of, node_at, size_of, Fits}
+use Rattle.nodes.specs.Memory.{node_at, size_of}
 use Rattle.nodes.specs.Laid.{join_of, flag_end, bound_end, EndIs, nodes, nodes_all, Laid, LaidAll}
-use Rattle.nodes.proofs.Memory.{read_fits}
-use Rattle.nodes.proofs.Laws.{tell, some_node, sized, at_plain, at_flag, at_bound, at_join, at_none, at_more, move}
+use Rattle.nodes.proofs.Laws.{sized, at_plain, at_flag, at_bound, at_join, at_more, move, move_all}
+use Rattle.folding.specs.declared.Cut.{Cut}
 use Rattle.folding.specs.declared.Kid.{Kid}
-use Rattle.folding.specs.declared.Kids.{Kids}
+use Rattle.folding.specs.declared.Kept.{Kept}
 use Rattle.folding.specs.Folded.{Folded}
-use Rattle.folding.specs.Parts.{cut, cut_all, kind_of, Before, KidIs, Leaves}
+use Rattle.folding.specs.Parts.{past, first_cut, end_or, cut, cut_all, constant_of, KidIs, Leaves, size_kept, count_kept}
 use Rattle.folding.specs.Parts.{EndRight, ShutRight, NodeRight, ChildrenRight}
-use Rattle.folding.proofs.Cuts.{cut_is}
-use Rattle.folding.proofs.Puts.{before, constant}
+use Rattle.folding.proofs.Cuts.{past_none, past_more, cut_is}
 
--- ---- a tree: nothing is left, or x is its node
+-- ---- a tree
 
-module _ (ns : List ℕ) (i left m : ℕ) (b : Bool) (o₀ : List ℕ) (j : ℕ) where
-  abbrev n : ℕ → Node
-  n = node_at ns
+module _ (n : ℕ → Node) (i left : ℕ) (x : Option Cut) where
+  pub plain_folded : (o : ℕ → Node) (v : Bool) (r : Kid) → n i ≡ node.Plain v → 1 ≤ left → KidIs o (plain v) r → NodeRight n i left x x o r
+  unfolding fold cut live nodes
+  plain_folded o v r e some k = record {
+    small = omega (arith, k.sized);
+    is = λ t l h. rw (at_plain n i t v e l) (k, sym (past_none x));
+  }
 
-  pub nothing_left : left ≡ 0 → NodeRight n i left m b o₀ o₀ j (record { kind = 2; size = 0; cut = m })
-  nothing_left z = record { small = omega arith; kept = λ x lt. refl; is = λ t l h. absurd (omega (arith, some_node t)) }
+  end_stays : (e : End) → fold (cut (leaf e) x) ≡ end_or e (first_cut x)
+  unfolding fold cut
+  end_stays e = by (first_cut x)
+    where
+      by : (z : Option Bool) → fold (end_or e z) ≡ end_or e z
+      by None = refl
+      by (Some b) = refl
 
-  module _ (o : List ℕ) (some : left ≡ 0 → ⊥) (x : Node) (here : x ≡ n i) where
-    pub plain_folded : (v : Bool) (s : ℕ) → x ≡ node.Plain v → j < length o₀ → o ≡ set o₀ j (word_of (node.Plain v)) → s ≡ cond v 1 0 →
-        NodeRight n i left m b o₀ o j (record { kind = s; size = 1; cut = m })
-    unfolding fold cut live
-    plain_folded v s e room put q = record {
-      small = omega arith;
-      kept = before o₀ o j (node.Plain v) put;
-      is = λ t l h.
-          let stays : m ≡ m - 0 = omega arith in
-          rw (at_plain n i t v (sym here ∙ e) l, ← stays) (constant o₀ o j room v m s put q);
-    }
+  end_folded : (y : Option Cut) (o : ℕ → Node) (r : Kid) (k : Node) (e : End) → EndIs e k → ((t : Tree) → Laid t n i → t ≡ leaf e) → 1 ≤ left →
+      EndRight k x y o r → NodeRight n i left x y o r
+  unfolding live
+  end_folded y o r k e h only some E = record {
+    small = omega (arith, E.small);
+    is = λ t l w. rw (only t l, end_stays e) (E.is e h, E.goes);
+  }
 
-    end_stays : (e : End) → fold (cut (leaf e) m b) ≡ cut (leaf e) m b
-    unfolding fold cut
-    end_stays e = by (eqb m 1)
-      where
-        by : (c : Bool) → fold (cond c (plain b) (leaf e)) ≡ cond c (plain b) (leaf e)
-        by true = refl
-        by false = refl
+  -- the node, which is neither a constant nor a connective
+  pub an_end_folded : (y : Option Cut) (o : ℕ → Node) (r : Kid) (k : Node) → n i ≡ k → ((b : Bool) → k ≡ node.Plain b → ⊥) →
+      ((a : Bool) (z s : ℕ) → k ≡ node.Join a z s → ⊥) → 1 ≤ left → EndRight k x y o r → NodeRight n i left x y o r
+  an_end_folded y o r (node.Plain b) q c j some E = absurd (c b refl)
+  an_end_folded y o r (node.Join a z s) q c j some E = absurd (j a z s refl)
+  an_end_folded y o r (node.Flag so p) q c j some E = end_folded y o r _ (flag_end so p) refl (λ t l. at_flag n i t so p q l) some E
+  an_end_folded y o r (node.Bound so u v w) q c j some E =
+      end_folded y o r _ (bound_end so u v w) refl (λ t l. at_bound n i t so u v w q l) some E
 
-    end_folded : (r : Kid) (e : End) → EndIs e x → ((t : Tree) → Laid t n i → t ≡ leaf e) → EndRight x m b o₀ o j r →
-        NodeRight n i left m b o₀ o j r
-    unfolding live
-    end_folded r e h only E = record {
-      small = omega (arith, E.small);
-      kept = E.kept;
-      is = λ t l w. rw (only t l, end_stays e) (E.is e h (subst Fits (sym here) (read_fits _)));
-    }
+  -- the children stand after the first node of the output
+  pub join_folded : (y : Option Cut) (every : Bool) (k s : ℕ) (o₀ o₁ o : ℕ → Node) (kept : Option Kept) (r : Kid) →
+      n i ≡ node.Join every k s → 1 ≤ left →
+      ChildrenRight n (i + 1) (left - 1) every k x y o₀ kept → ((z : ℕ) → z < left - 1 → o₁ (1 + z) ≡ o₀ z) → ShutRight every kept o₁ o r →
+      NodeRight n i left x y o r
+  unfolding fold cut live nodes
+  join_folded y every k s o₀ o₁ o kept r e some K up S = record {
+    small = omega (arith, S.small, K.small);
+    is = λ t l h.
+        let p = at_join n i t every k s e l in
+        let size : nodes t ≡ nodes_all p.ts + 1 = ap nodes p.tree in
+        let found = K.is p.ts p.laid p.many (omega arith) in
+        rw p.tree (S.is (fold_all (cut_all p.ts x) (join_of every)) (shifted (fold_all (cut_all p.ts x) (join_of every)) kept K.small found.0), found.1);
+  }
+    where
+      shifted : (l : Left) (kids : Option Kept) → size_kept kids ≤ left - 1 → Leaves l o₀ 0 kids → Leaves l o₁ 1 kids
+      shifted decided None w h = tt
+      shifted decided (Some q) w h = absurd h
+      shifted (these us) None w h = absurd h
+      shifted (these us) (Some q) w h =
+          let size = h.sized in
+          record {
+            laid = move_all us o₀ o₁ 0 1 (λ z lt. up z (omega arith) ∙ ap o₀ (omega arith)) h.laid;
+            sized = h.sized;
+            counted = h.counted;
+            headed = h.headed;
+          }
 
-    pub flag_folded : (r : Kid) (so : Bool) (p : ℕ) → x ≡ node.Flag so p → EndRight x m b o₀ o j r → NodeRight n i left m b o₀ o j r
-    flag_folded r so p e E =
-        end_folded r (flag_end so p) (tell (sym e) (flag_end so p) refl) (λ t l. at_flag n i t so p (sym here ∙ e) l) E
+-- ---- what a folded child does to the children that are left
 
-    pub bound_folded : (r : Kid) (so : Bool) (u v w : ℕ) → x ≡ node.Bound so u v w → EndRight x m b o₀ o j r →
-        NodeRight n i left m b o₀ o j r
-    bound_folded r so u v w e E =
-        end_folded r (bound_end so u v w) (tell (sym e) (bound_end so u v w) refl) (λ t l. at_bound n i t so u v w (sym here ∙ e) l) E
+kept_child : (g : Join) (u : Tree) (l : Left) → constant_of u ≡ None → drop g u l ≡ keep u l
+kept_child g (plain b) l q = cc
+kept_child g (leaf e) l q = refl
+kept_child g (join h us) l q = refl
 
-    pub join_folded : (r : Kid) (kids : Kids) (every : Bool) (k s : ℕ) (o₁ : List ℕ) → x ≡ node.Join every k s →
-        ChildrenRight n (i + 1) (left - 1) every k m b o₀ o₁ (j + 1) kids → ShutRight every kids o₁ o j r →
-        NodeRight n i left m b o₀ o j r
-    unfolding fold cut live nodes
-    join_folded r kids every k s o₁ e K S = record {
-      small = omega (arith, S.small, K.small);
-      kept = λ y lt. S.kept y lt ∙ K.kept y (omega arith);
-      is = λ t l h.
-          let p = at_join n i t every k s (sym here ∙ e) l in
-          let size : nodes t ≡ nodes_all p.ts + 1 = ap nodes p.tree in
-          let found = K.is p.ts p.laid p.many (omega arith) in
-          rw (p.tree, ← found.1) (S.is (fold_all (cut_all p.ts m b) (join_of every)) found.0);
-    }
+plain_child : (u : Tree) (b : Bool) → constant_of u ≡ Some b → u ≡ plain b
+plain_child (plain c) b q = cc
+plain_child (leaf e) b q = cc
+plain_child (join g us) b q = cc
 
--- ---- what a folded child's kind does to the children that are left
+-- "An `and` with a false child is false; true children are dropped", "`or` is the mirror"
+dropped : (every b : Bool) (l : Left) → beq b every ≡ true → drop (join_of every) (plain b) l ≡ l
+dropped true true l q = refl
+dropped true false l q = cc
+dropped false true l q = cc
+dropped false false l q = refl
 
-kept_kind : (g : Join) (u : Tree) (l : Left) → kind_of u ≡ 2 → drop g u l ≡ keep u l
-kept_kind g (plain true) l q = absurd (omega arith)
-kept_kind g (plain false) l q = absurd (omega arith)
-kept_kind g (leaf e) l q = refl
-kept_kind g (join h us) l q = refl
+decides : (every b : Bool) (l : Left) → beq b every ≡ false → drop (join_of every) (plain b) l ≡ decided
+decides true true l q = cc
+decides true false l q = refl
+decides false true l q = refl
+decides false false l q = cc
 
-dropped_kind : (every : Bool) (u : Tree) (l : Left) → kind_of u ≡ cond every 1 0 → drop (join_of every) u l ≡ l
-dropped_kind true (plain true) l q = refl
-dropped_kind true (plain false) l q = absurd (omega arith)
-dropped_kind false (plain true) l q = absurd (omega arith)
-dropped_kind false (plain false) l q = refl
-dropped_kind true (leaf e) l q = absurd (omega arith)
-dropped_kind false (leaf e) l q = absurd (omega arith)
-dropped_kind true (join g us) l q = absurd (omega arith)
-dropped_kind false (join g us) l q = absurd (omega arith)
-
-deciding_kind : (every : Bool) (u : Tree) (l : Left) → (kind_of u ≡ 2 → ⊥) → (kind_of u ≡ cond every 1 0 → ⊥) →
-    drop (join_of every) u l ≡ decided
-deciding_kind true (plain true) l z q = absurd (q refl)
-deciding_kind true (plain false) l z q = refl
-deciding_kind false (plain true) l z q = refl
-deciding_kind false (plain false) l z q = absurd (q refl)
-deciding_kind every (leaf e) l z q = absurd (z refl)
-deciding_kind every (join g us) l z q = absurd (z refl)
+still_decided : (g : Join) (u : Tree) → drop g u decided ≡ decided
+still_decided all (plain true) = refl
+still_decided all (plain false) = refl
+still_decided any (plain true) = refl
+still_decided any (plain false) = refl
+still_decided g (leaf e) = refl
+still_decided g (join h us) = refl
 
 -- ---- the k trees from i on: none, or s is the size of the first
 
-module _ (n : ℕ → Node) (i left : ℕ) (every : Bool) (k m : ℕ) (b : Bool) (o₀ : List ℕ) (j : ℕ) where
-  pub none_folded : k ≡ 0 → ChildrenRight n i left every k m b o₀ o₀ j (record { decided = false; count = 0; size = 0; cut = m })
+module _ (n : ℕ → Node) (i left : ℕ) (every : Bool) (k : ℕ) (x : Option Cut) where
+  pub none_folded : (o : ℕ → Node) (s : ℕ) → s ≡ size_of (n i) → (¬ (k ≡ 0) → left < s) →
+      ChildrenRight n i left every k x x o (Some (record { count = 0; size = 0 }))
   unfolding fold cut live Laid nodes
-  none_folded z = record {
-    small = omega arith;
-    few = omega arith;
-    kept = λ x lt. refl;
-    is = λ ts l e h.
-        rw (at_none ts k e z) (record { undecided = refl; laid = tt; sized = refl; counted = refl; headed = tt }, omega arith);
-  }
+  none_folded o s first h = record { small = omega arith; few = omega arith; is = by }
+    where
+      by : (ts : Forest) → LaidAll ts n i → count ts ≡ k → nodes_all ts ≤ left →
+          Leaves (fold_all (cut_all ts x) (join_of every)) o 0 (Some (record { count = 0; size = 0 })) × (x ≡ past (live_all ts) x)
+      by none l e w = (record { laid = tt; sized = refl; counted = refl; headed = tt }, sym (past_none x))
+      by (more t ts) l e w = let size = sized t n i l.0 in absurd (omega (arith, h (λ z. omega arith)))
 
-  module _ (some : k ≡ 0 → ⊥) (s : ℕ) (first : s ≡ size_of (n i)) where
-    pub too_long : left < s → ChildrenRight n i left every k m b o₀ o₀ j (record { decided = false; count = 0; size = 0; cut = m })
-    too_long long = record {
+  -- the first child is folded, then the others
+  module _ (some : ¬ (k ≡ 0)) (s : ℕ) (first : s ≡ size_of (n i)) (fits : s ≤ left) (one : 1 ≤ s)
+      (y : Option Cut) (o₁ : ℕ → Node) (r₁ : Kid) (F : NodeRight n i s x y o₁ r₁)
+      (z : Option Cut) (o₂ : ℕ → Node) (r₂ : Option Kept) (R : ChildrenRight n (i + s) (left - s) every (k - 1) y z o₂ r₂) where
+    record Both (ts : Forest) : Type 0 where
+      u : Tree
+      l : Left
+      folds : fold_all (cut_all ts x) (join_of every) ≡ drop (join_of every) u l
+      child : KidIs o₁ u r₁
+      others : Leaves l o₂ 0 r₂
+      goes : z ≡ past (live_all ts) x
+
+    found : (ts : Forest) → LaidAll ts n i → count ts ≡ k → nodes_all ts ≤ left → Both ts
+    unfolding fold cut live
+    found ts l e h =
+        let f = at_more ts n i k e some l in
+        let total = f.total in
+        let size : s ≡ nodes f.t = first ∙ sized f.t n i f.laid in
+        let a = F.is f.t f.laid (omega arith) in
+        let laid : LaidAll f.us n (i + s) = rw size f.others in
+        let b = R.is f.us laid f.many (omega arith) in
+        let lives : live_all ts ≡ live f.t + live_all f.us = ap live_all f.forest in
+        record {
+          u = fold (cut f.t x);
+          l = fold_all (cut_all f.us y) (join_of every);
+          folds = ap (λ q. fold_all (cut_all q x) (join_of every)) f.forest
+              ∙ ap (λ q. drop (join_of every) (fold (cut f.t x)) (fold_all (cut_all f.us q) (join_of every))) (sym a.1);
+          child = a.0;
+          others = b.0;
+          goes = b.1 ∙ ap (past (live_all f.us)) a.1 ∙ past_more (live f.t) (live_all f.us) x ∙ ap (λ q. past q x) (sym lives);
+        }
+
+    -- one of the others decides
+    pub others_decide : (o : ℕ → Node) → r₂ ≡ None → ChildrenRight n i left every k x z o None
+    others_decide o none_left = record {
       small = omega arith;
       few = omega arith;
-      kept = λ x lt. refl;
-      is = λ ts l e h. let f = at_more ts n i k e some l in absurd (omega (arith, sized f.t n i f.laid, f.total));
+      is = λ ts l e h. let a = found ts l e h in (by a.u a.l a.folds (subst (Leaves a.l o₂ 0) none_left a.others), a.goes);
+    }
+      where
+        by : (u : Tree) (l : Left) {g : Left} → g ≡ drop (join_of every) u l → Leaves l o₂ 0 None → Leaves g o 0 None
+        by u decided q h = rw (q, still_decided (join_of every) u) tt
+        by u (these us) q h = absurd h
+
+    pub child_decides : (o : ℕ → Node) (b : Bool) → r₁.constant ≡ Some b → beq b every ≡ false → ChildrenRight n i left every k x z o None
+    child_decides o b q apart = record {
+      small = omega arith;
+      few = omega arith;
+      is = λ ts l e h.
+          let a = found ts l e h in
+          (rw (a.folds, plain_child a.u b (sym a.child.sorted ∙ q), decides every b a.l apart) tt, a.goes);
     }
 
-    -- the first child is folded to j, then the others to j₂, which is no less
-    module _ (fits : s ≤ left) (one : 1 ≤ s) (o₁ : List ℕ) (r₁ : Kid) (F : NodeRight n i s m b o₀ o₁ j r₁)
-        (o₂ : List ℕ) (j₂ : ℕ) (r₂ : Kids)
-        (R : ChildrenRight n (i + s) (left - s) every (k - 1) r₁.cut b o₁ o₂ j₂ r₂) (after : j ≤ j₂) where
-      record Both (ts : Forest) : Type 0 where
-        u : Tree
-        l : Left
-        folds : fold_all (cut_all ts m b) (join_of every) ≡ drop (join_of every) u l
-        child : KidIs o₁ j u r₁.cut r₁
-        others : Leaves l o₂ j₂ r₂
-        goes : r₂.cut ≡ m - live_all ts
+    -- a constant is written over by the others
+    pub child_dropped : (b : Bool) → r₁.constant ≡ Some b → beq b every ≡ true → ChildrenRight n i left every k x z o₂ r₂
+    child_dropped b q same = record {
+      small = omega (arith, R.small);
+      few = omega (arith, R.few);
+      is = λ ts l e h.
+          let a = found ts l e h in
+          (rw (a.folds, plain_child a.u b (sym a.child.sorted ∙ q), dropped every b a.l same) a.others, a.goes);
+    }
 
-      found : (ts : Forest) → LaidAll ts n i → count ts ≡ k → nodes_all ts ≤ left → Both ts
-      unfolding fold cut live
-      found ts l e h =
-          let f = at_more ts n i k e some l in
-          let total = f.total in
-          let size : s ≡ nodes f.t = first ∙ sized f.t n i f.laid in
-          let x = F.is f.t f.laid (omega arith) in
-          let laid : LaidAll f.us n (i + s) = rw size f.others in
-          let rest : r₁.cut ≡ m - live f.t = x.goes in
-          let y = R.is f.us laid f.many (omega arith) in
-          let lives : live_all ts ≡ live f.t + live_all f.us = ap live_all f.forest in
-          record {
-            u = fold (cut f.t m b);
-            l = fold_all (cut_all f.us r₁.cut b) (join_of every);
-            folds = ap (λ y. fold_all (cut_all y m b) (join_of every)) f.forest
-                ∙ ap (λ y. drop (join_of every) (fold (cut f.t m b)) (fold_all (cut_all f.us y b) (join_of every))) (sym rest);
-            child = rw (sym rest) at x;
-            others = y.0;
-            goes = y.1 ∙ omega arith;
-          }
-
-      kept_before : Before j o₀ o₂
-      kept_before x lt = R.kept x (omega arith) ∙ F.kept x lt
-
-      pub child_dropped : r₁.kind ≡ cond every 1 0 → j₂ ≡ j → ChildrenRight n i left every k m b o₀ o₂ j r₂
-      child_dropped q at = record {
-        small = omega (arith, R.small);
-        few = omega (arith, R.few);
-        kept = kept_before;
-        is = λ ts l e h.
-            let x = found ts l e h in
-            let here = subst (λ y. Leaves x.l o₂ y r₂) at x.others in
-            (rw (x.folds, dropped_kind every x.u x.l (sym x.child.sorted ∙ q)) here, x.goes);
-      }
-
-      pub child_decides : (r₁.kind ≡ 2 → ⊥) → (r₁.kind ≡ cond every 1 0 → ⊥) →
-          ChildrenRight n i left every k m b o₀ o₂ j (record { decided = true; count = 0; size = 0; cut = r₂.cut })
-      child_decides z q = record {
-        small = omega arith;
-        few = omega arith;
-        kept = kept_before;
-        is = λ ts l e h.
-            let x = found ts l e h in
-            let sort = x.child.sorted in
-            (rw (x.folds, deciding_kind every x.u x.l (λ y. z (sort ∙ y)) (λ y. q (sort ∙ y))) refl, x.goes);
-      }
-
-      -- the child stands as it was written, as the others are written after it
-      pub child_kept : r₁.kind ≡ 2 → j₂ ≡ j + r₁.size →
-          ChildrenRight n i left every k m b o₀ o₂ j
-          (record { decided = r₂.decided; count = r₂.count + 1; size = r₁.size + r₂.size; cut = r₂.cut })
-      unfolding Laid nodes
-      child_kept q at = record {
-        small = omega (arith, F.small, R.small);
-        few = omega (arith, R.few);
-        kept = kept_before;
-        is = λ ts l e h.
-            let x = found ts l e h in
-            let sort = x.child.sorted in
-            (rw (x.folds, kept_kind (join_of every) x.u x.l (sym sort ∙ q)) (by x.u x.l x.child x.others), x.goes);
-      }
-        where
-          r : Kids
-          r = record { decided = r₂.decided; count = r₂.count + 1; size = r₁.size + r₂.size; cut = r₂.cut }
-
-          by : (u : Tree) (l : Left) → KidIs o₁ j u r₁.cut r₁ → Leaves l o₂ j₂ r₂ → Leaves (keep u l) o₂ j r
-          by u decided x w = w
-          by u (these us) x w =
-              let a = x.sized in
-              let c = w.sized in
-              let place : j₂ ≡ j + nodes u = omega arith in
-              record {
-                undecided = w.undecided;
-                laid = (
-                  move u (node_at o₁) (node_at o₂) j j (λ y lt. R.kept (j + y) (omega arith)) x.laid,
-                  rw place at w.laid,
-                );
-                sized = omega arith;
-                counted = omega (arith, w.counted);
-                headed = sym x.sorted ∙ q;
-              }
+    -- the child stands as it was written, and the others after it
+    pub child_kept : (o : ℕ → Node) (c : Kept) → r₂ ≡ Some c → r₁.constant ≡ None → ((v : ℕ) → v < r₁.size → o v ≡ o₁ v) →
+        ((v : ℕ) → v < c.size → o (r₁.size + v) ≡ o₂ v) →
+        ChildrenRight n i left every k x z o (Some (record { count = c.count + 1; size = r₁.size + c.size }))
+    unfolding Laid nodes
+    child_kept o c is q before after = record {
+      small = omega (arith, F.small, R.small, ap size_kept is);
+      few = omega (arith, R.few, ap count_kept is);
+      is = λ ts l e h.
+          let a = found ts l e h in (
+            rw (a.folds, kept_child (join_of every) a.u a.l (sym a.child.sorted ∙ q)) (by a.u a.l a.child (subst (Leaves a.l o₂ 0) is a.others)),
+            a.goes,
+          );
+    }
+      where
+        by : (u : Tree) (l : Left) → KidIs o₁ u r₁ → Leaves l o₂ 0 (Some c) →
+            Leaves (keep u l) o 0 (Some (record { count = c.count + 1; size = r₁.size + c.size }))
+        by u decided a h = absurd h
+        by u (these us) a h =
+            let size = a.sized in
+            let rest = h.sized in
+            record {
+              laid = (
+                move u o₁ o 0 0 (λ v lt. ap o (omega arith) ∙ before v (omega arith) ∙ ap o₁ (omega arith)) a.laid,
+                move_all us o₂ o 0 (0 + nodes u) (λ v lt. ap o (omega arith) ∙ after v (omega arith) ∙ ap o₂ (omega arith)) h.laid,
+              );
+              sized = omega arith;
+              counted = omega (arith, h.counted);
+              headed = sym a.sorted ∙ q;
+            }
 
 -- ---- the whole
 
-pub whole_folded : (ns : ℕ → Node) (n m : ℕ) (b : Bool) (room : ℕ) (o₀ o : List ℕ) (r : Kid) → NodeRight ns 0 n m b o₀ o 0 r →
-    Folded ns n m b room (node_at o) r.size
-whole_folded ns n m b room o₀ o r N = record {
-  small = N.small;
-  is = λ t l size few wide end. let x = N.is t l (omega arith) in rw (← cut_is t m b end) (x.laid, x.sized);
-}
+module _ (n : ℕ → Node) (size : ℕ) (is : size ≡ size_of (n 0)) (x : Option Cut) (o : List Node) where
+  pub refused : (size ≤ tree_room → length o < tree_room) → Folded n x o o 0
+  refused h = record {
+    small = omega arith;
+    kept = λ short. refl;
+    is = λ t l few wide end. let s = sized t n 0 l in absurd (omega arith);
+  }
+
+  pub whole_folded : (y : Option Cut) (o' : List Node) (r : Kid) → tree_room ≤ length o → NodeRight n 0 size x y (node_at o') r →
+      Folded n x o o' r.size
+  whole_folded y o' r wide N = record {
+    small = omega (arith, N.small);
+    kept = λ short. absurd (omega arith);
+    is = λ t l few room end.
+        let k = (N.is t l (omega (arith, sized t n 0 l))).0 in
+        rw (← cut_is t x end) (k.laid, k.sized);
+  }

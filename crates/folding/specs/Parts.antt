@@ -1,87 +1,90 @@
 -- What the parts of the folding leave. `is` says what is written where a tree is laid; the other fields hold on any nodes.
-use Rattle.std.specs.Prelude.{ℕ, ◌+◌, ◌-◌, ◌≤◌, ◌<◌, ◌≡◌, List, Bool, true, false, cond, eqb, get_or}
-use Rattle.condition.specs.Limits.{tree_room}
+use Rattle.std.specs.Prelude.{ℕ, ◌+◌, ◌-◌, ◌≤◌, ◌≡◌, Bool, cond, eqb, ltb, Option, Some, None}
 use Rattle.condition.specs.Meaning.{End, Tree, plain, leaf, join, Forest, none, more, count}
 use Rattle.condition.specs.Folding.{Left, decided, these, close, fold, fold_all, live, live_all}
 use Rattle.nodes.specs.declared.Node.{Node}
-use Rattle.nodes.specs.Memory.{node_at, Fits}
 use Rattle.nodes.specs.Laid.{join_of, EndIs, nodes, nodes_all, Laid, LaidAll}
+use Rattle.folding.specs.declared.Cut.{Cut}
 use Rattle.folding.specs.declared.Kid.{Kid}
-use Rattle.folding.specs.declared.Kids.{Kids}
+use Rattle.folding.specs.declared.Kept.{Kept}
 
--- the cut as it goes from child to child: end m, counted from 1, becomes b, and each child takes its ends off m; no end is end 0
+-- the cut as it goes from child to child: counted from the end after k ends, or past them
+abbrev pub past : ℕ → Option Cut → Option Cut
+past k None = None
+past k (Some c) = cond (ltb c.end k) None (Some (record { end = c.end - k; to = c.to }))
+
+-- what replaces the first end, if that is the one to cut
+abbrev pub first_cut : Option Cut → Option Bool
+first_cut None = None
+first_cut (Some c) = cond (eqb c.end 0) (Some c.to) None
+
+abbrev pub end_or : End → Option Bool → Tree
+end_or e None = leaf e
+end_or e (Some b) = plain b
+
 unfoldable mutual
-  pub cut : Tree → ℕ → Bool → Tree
-  cut (plain c) m b = plain c
-  cut (leaf e) m b = cond (eqb m 1) (plain b) (leaf e)
-  cut (join j ts) m b = join j (cut_all ts m b)
+  pub cut : Tree → Option Cut → Tree
+  cut (plain b) x = plain b
+  cut (leaf e) x = end_or e (first_cut x)
+  cut (join j ts) x = join j (cut_all ts x)
 
-  pub cut_all : Forest → ℕ → Bool → Forest
-  cut_all none m b = none
-  cut_all (more t ts) m b = more (cut t m b) (cut_all ts (m - live t) b)
+  pub cut_all : Forest → Option Cut → Forest
+  cut_all none x = none
+  cut_all (more t ts) x = more (cut t x) (cut_all ts (past (live t) x))
 
-abbrev pub kind_of : Tree → ℕ
-kind_of (plain b) = cond b 1 0
-kind_of (leaf e) = 2
-kind_of (join j ts) = 2
+abbrev pub constant_of : Tree → Option Bool
+constant_of (plain b) = Some b
+constant_of (leaf e) = None
+constant_of (join j ts) = None
 
--- where a tree of at most `left` nodes may be folded: what is written stays behind what is read
-pub record Room (i left j room : ℕ) : Type 0 where
-  pub few : i + left ≤ tree_room
-  pub behind : j ≤ i
-  pub wide : tree_room ≤ room
-
--- the n nodes after j are moved one down
-pub record Slid (o₀ o : List ℕ) (j n : ℕ) : Type 0 where
-  pub moved : (k : ℕ) → k < n → get_or o (j + k) 0 ≡ get_or o₀ (j + k + 1) 0
-  pub kept : (x : ℕ) → x < j → get_or o x 0 ≡ get_or o₀ x 0
-
--- nodes before j are as they were
-abbrev pub Before : ℕ → List ℕ → List ℕ → Type 0
-Before j o₀ o = (x : ℕ) → x < j → node_at o x ≡ node_at o₀ x
-
--- u stands from j on, and the cut goes on from m
-pub record KidIs (o : List ℕ) (j : ℕ) (u : Tree) (m : ℕ) (r : Kid) : Type 0 where
-  pub laid : Laid u (node_at o) j
+-- u stands from node 0 on
+pub record KidIs (o : ℕ → Node) (u : Tree) (r : Kid) : Type 0 where
+  pub laid : Laid u o 0
   pub sized : r.size ≡ nodes u
-  pub sorted : r.kind ≡ kind_of u
-  pub goes : r.cut ≡ m
+  pub sorted : r.constant ≡ constant_of u
 
 -- the children us are left and stand from j on; the first is no constant, as none is
 abbrev pub Headed : Forest → Type 0
 Headed none = Unit {0}
-Headed (more t ts) = kind_of t ≡ 2
+Headed (more t ts) = constant_of t ≡ None
 
-pub record These (o : List ℕ) (j : ℕ) (us : Forest) (r : Kids) : Type 0 where
-  pub undecided : r.decided ≡ false
-  pub laid : LaidAll us (node_at o) j
+pub record These (o : ℕ → Node) (j : ℕ) (us : Forest) (r : Kept) : Type 0 where
+  pub laid : LaidAll us o j
   pub sized : r.size ≡ nodes_all us
   pub counted : r.count ≡ count us
   pub headed : Headed us
 
-abbrev pub Leaves : Left → List ℕ → ℕ → Kids → Type 0
-Leaves decided o j r = r.decided ≡ true
-Leaves (these us) o j r = These o j us r
+abbrev pub Leaves : Left → (ℕ → Node) → ℕ → Option Kept → Type 0
+Leaves decided o j None = Unit {0}
+Leaves decided o j (Some r) = ⊥
+Leaves (these us) o j None = ⊥
+Leaves (these us) o j (Some r) = These o j us r
 
-pub record EndRight (n : Node) (m : ℕ) (b : Bool) (o₀ o : List ℕ) (j : ℕ) (r : Kid) : Type 0 where
+abbrev pub size_kept : Option Kept → ℕ
+size_kept None = 0
+size_kept (Some r) = r.size
+
+abbrev pub count_kept : Option Kept → ℕ
+count_kept None = 0
+count_kept (Some r) = r.count
+
+-- x is the cut before the part, y after it
+pub record EndRight (n : Node) (x y : Option Cut) (o : ℕ → Node) (r : Kid) : Type 0 where
   pub small : r.size ≡ 1
-  pub kept : Before j o₀ o
-  pub is : (e : End) → EndIs e n → Fits n → KidIs o j (cut (leaf e) m b) (m - 1) r
+  pub goes : y ≡ past 1 x
+  pub is : (e : End) → EndIs e n → KidIs o (end_or e (first_cut x)) r
 
 -- of an `and` (every) or an `or`
-pub record ShutRight (every : Bool) (kids : Kids) (o₀ o : List ℕ) (j : ℕ) (r : Kid) : Type 0 where
-  pub small : r.size ≤ kids.size + 1
-  pub kept : Before j o₀ o
-  pub is : (l : Left) → Leaves l o₀ (j + 1) kids → KidIs o j (close (join_of every) l) kids.cut r
+pub record ShutRight (every : Bool) (kept : Option Kept) (o₀ o : ℕ → Node) (r : Kid) : Type 0 where
+  pub small : r.size ≤ size_kept kept + 1
+  pub is : (l : Left) → Leaves l o₀ 1 kept → KidIs o (close (join_of every) l) r
 
-pub record NodeRight (n : ℕ → Node) (i left m : ℕ) (b : Bool) (o₀ o : List ℕ) (j : ℕ) (r : Kid) : Type 0 where
+pub record NodeRight (n : ℕ → Node) (i left : ℕ) (x y : Option Cut) (o : ℕ → Node) (r : Kid) : Type 0 where
   pub small : r.size ≤ left
-  pub kept : Before j o₀ o
-  pub is : (t : Tree) → Laid t n i → nodes t ≤ left → KidIs o j (fold (cut t m b)) (m - live t) r
+  pub is : (t : Tree) → Laid t n i → nodes t ≤ left → KidIs o (fold (cut t x)) r × (y ≡ past (live t) x)
 
-pub record ChildrenRight (n : ℕ → Node) (i left : ℕ) (every : Bool) (k m : ℕ) (b : Bool) (o₀ o : List ℕ) (j : ℕ) (r : Kids) : Type 0 where
-  pub small : r.size ≤ left
-  pub few : r.count ≤ left
-  pub kept : Before j o₀ o
+pub record ChildrenRight (n : ℕ → Node) (i left : ℕ) (every : Bool) (k : ℕ) (x y : Option Cut) (o : ℕ → Node) (r : Option Kept) : Type 0 where
+  pub small : size_kept r ≤ left
+  pub few : count_kept r ≤ left
   pub is : (ts : Forest) → LaidAll ts n i → count ts ≡ k → nodes_all ts ≤ left →
-      Leaves (fold_all (cut_all ts m b) (join_of every)) o j r × (r.cut ≡ m - live_all ts)
+      Leaves (fold_all (cut_all ts x) (join_of every)) o 0 r × (y ≡ past (live_all ts) x)

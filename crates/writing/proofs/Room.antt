@@ -5,13 +5,15 @@ use mathlib.Core.Path.{◌≡◌, refl, sym, ap, ap₂, ◌∙◌}
 use mathlib.Core.List.{List, [], ◌∷◌, ◌++◌, append_assoc, append-nil}
 use native.Mathlib.Omega.{arith}
 use lib.Dec.{ltb}
-use lib.ListN.{length, take, drop, set, length-append, length-drop, length-set, drop_of_length-le}
+use lib.ListN.{length, get_or, take, drop, length-append, length-drop, drop_of_length-le}
 use lib.Seq.{take_all, drop-drop, take_at, drop_at}
 use borrow.Rule.Slice.PartMut.{mid_of, put_mid}
 use borrow.Table.Steps.{cases}
 use borrow.Author.Tests.{ltb-true, ltb-false, lt-ltb, le-ltb}
 use Rattle.condition.specs.Limits.{group_size}
-use Rattle.condition.specs.Bytes.{groups_of}
+use Rattle.std.specs.List.{flat_map}
+use Rattle.std.proofs.lemmas.List.{flat_map_more, take_more}
+use Rattle.condition.specs.Bytes.{groups_of, number}
 use Rattle.writing.specs.Written.{Stands, Put}
 
 -- no bytes are written, or none of bytes that have no room
@@ -20,11 +22,6 @@ nothing o = record { long = λ h. refl; here = λ h. refl }
 
 pub no_room : {o o' s : List ℕ} {r : ℕ} → length o < length s → Stands o o' s r
 no_room f = record { long = λ h. absurd (omega arith); here = λ h. absurd (omega arith) }
-
--- one byte
-pub one : (o : List ℕ) (x : ℕ) → 1 ≤ length o → Stands o (set o 0 x) (x ∷ []) 1
-one [] x h = absurd (omega arith)
-one (y ∷ o) x h = record { long = λ h. refl; here = λ h. refl }
 
 -- u at the start, then v into the rest, which is lent whole
 module _ (o o₁ o₂ u v : List ℕ) (a m b : ℕ) (same : length o₁ ≡ length o) (whole : m ≡ length o₁ - a) (first : Stands o o₁ u a)
@@ -109,26 +106,53 @@ put_then o o₁ o₂ u v a m b same whole first second =
       stands = joined o o₁ o₂ u v a m b same whole first.stands second.stands;
     }
 
-pub put_one : (o : List ℕ) (x : ℕ) → 1 ≤ length o → Put o (set o 0 x) (x ∷ []) 1
-put_one o x h = record { room = h; stands = one o x h }
-
 -- ---- the ways out of `put`
 
-module _ (o : List ℕ) (g n : ℕ) where
-  pub put_none : g ≡ 0 → Put o o (groups_of g n) 0
-  put_none z = record { room = omega arith; stands = rw (no_groups g n z) (nothing o) }
+pub put_none : (o : List ℕ) (g n : ℕ) → g ≡ 0 → Put o o (groups_of g n) 0
+put_none o g n z = record { room = omega arith; stands = rw (no_groups g n z) (nothing o) }
 
-  module _ (some : g ≡ 0 → ⊥) where
-    pub put_full : length o ≡ 0 → Put o o (groups_of g n) 0
-    put_full z = record { room = omega arith; stands = no_room (omega (arith, some_byte g n some)) }
+module _ {o : List ℕ} (g n : ℕ) (some : g ≡ 0 → ⊥) where
+  pub put_full : length o ≡ 0 → Put o o (groups_of g n) 0
+  put_full z = record { room = omega arith; stands = no_room (omega (arith, some_byte g n some)) }
 
-    module _ (held : length o ≡ 0 → ⊥) where
-      pub put_short : n < group_size → Put o (set o 0 n) (groups_of g n) 1
-      put_short h = record { room = omega arith; stands = rw (short_number g n some h) (one o n (omega arith)) }
+  -- the first byte is x, the others o₁
+  module _ {x : ℕ} {o₁ : List ℕ} (whole : o ≡ x ∷ o₁) where
+    pub put_short : n < group_size → Put o (n ∷ o₁) (groups_of g n) 1
+    put_short h =
+        rw (whole, short_number g n some h) (record { room = omega arith; stands = record { long = λ f. refl; here = λ f. refl } })
 
-      pub put_long : (o₂ : List ℕ) (m b : ℕ) → group_size ≤ n → m ≡ length (set o 0 (group_size + n % group_size)) - 1
-          → Put (mid_of 1 m (set o 0 (group_size + n % group_size))) o₂ (groups_of (g - 1) (n / group_size)) b
-          → Put o (put_mid 1 m (set o 0 (group_size + n % group_size)) o₂) (groups_of g n) (1 + b)
-      put_long o₂ m b h whole rest =
-          rw (long_number g n some h)
-          (put_then o _ o₂ ((group_size + n % group_size) ∷ []) _ 1 m b (length-set o 0 _) whole (put_one o _ (omega arith)) rest)
+    pub put_long : {o₂ : List ℕ} {b : ℕ} → group_size ≤ n → Put o₁ o₂ (groups_of (g - 1) (n / group_size)) b →
+        Put o ((group_size + n % group_size) ∷ o₂) (groups_of g n) (1 + b)
+    put_long h rest =
+        let s = rest.stands in
+        rw (whole, long_number g n some h) (record {
+          room = omega (arith, rest.room);
+          stands = record {
+            long = λ f. omega (arith, s.long (omega arith));
+            here = λ f. ap (λ l. (group_size + n % group_size) ∷ l) (s.here (omega arith));
+          };
+        })
+
+-- ---- the ways out of `group_count`
+
+pub counted_none : (g n : ℕ) → g ≡ 0 → (0 ≡ length (groups_of g n)) × (0 ≤ g)
+counted_none g n z = rw (no_groups g n z) (refl, omega arith)
+
+pub counted_short : (g n : ℕ) → (g ≡ 0 → ⊥) → n < group_size → (1 ≡ length (groups_of g n)) × (1 ≤ g)
+counted_short g n some h = rw (short_number g n some h) (refl, omega arith)
+
+pub counted_long : (g n : ℕ) {r : ℕ} → (g ≡ 0 → ⊥) → group_size ≤ n → (r ≡ length (groups_of (g - 1) (n / group_size))) × (r ≤ g - 1) →
+    (1 + r ≡ length (groups_of g n)) × (1 + r ≤ g)
+counted_long g n some h c = rw (long_number g n some h) (omega (arith, c.0), omega (arith, c.1))
+
+-- ---- the loop of `put_each`: a turn
+
+pub one_more : {o o₁ o₂ : List ℕ} (ns : List ℕ) (i n : ℕ) {a m b : ℕ} → i < length ns → n ≡ get_or ns i 0 → length o₁ ≡ length o → m ≡ length o₁ - a →
+    Put o o₁ (flat_map number (take i ns)) a → Put (mid_of a m o₁) o₂ (number n) b →
+    Put o (put_mid a m o₁ o₂) (flat_map number (take (i + 1) ns)) (a + b)
+one_more {o} {o₁} {o₂} ns i n {a} {m} {b} less same long whole first second =
+    let more : flat_map number (take i ns) ++ number n ≡ flat_map number (take (i + 1) ns) =
+    ap (λ x. flat_map number (take i ns) ++ number x) same
+    ∙ flat_map_more number [] (take i ns) (get_or ns i 0)
+    ∙ ap (flat_map number) (sym (take_more ns i 0 less)) in
+    rw (← more) (put_then o o₁ o₂ (flat_map number (take i ns)) (number n) a m b long whole first second)

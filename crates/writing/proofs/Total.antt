@@ -1,13 +1,16 @@
 -- How long a tree's bytes are: the sum over its nodes of each node's own, by recursion over the tree. Sums over neighbouring nodes add up.
-use Prim.Native.Nat.{ℕ, zero, suc, ◌+◌}
-use mathlib.Core.Path.{◌≡◌, refl, sym, ap, ◌∙◌}
+use Prim.Native.Nat.{ℕ, zero, suc, ◌+◌, ◌≤◌, min}
+use mathlib.Core.Path.{◌≡◌, refl, ap, ◌∙◌}
 use native.Mathlib.Omega.{arith}
 use lib.ListN.{length, length-append}
 use Rattle.condition.specs.Meaning.{Tree, plain, leaf, join, Forest, none, more}
 use Rattle.condition.specs.Bytes.{bytes, bytes_all}
 use Rattle.nodes.specs.declared.Node.{Node}
+use Rattle.condition.specs.Limits.{tree_room}
+use Rattle.nodes.specs.Memory.{size_of}
+use Rattle.nodes.proofs.Laws.{sized}
 use Rattle.nodes.specs.Laid.{nodes, nodes_all, Laid, LaidAll}
-use Rattle.writing.specs.Written.{own}
+use Rattle.writing.specs.Written.{own, Needed}
 use Rattle.writing.proofs.Walk.{opened}
 
 -- the own bytes of the k nodes from i on, counted
@@ -81,6 +84,11 @@ pub none_yet : (n : ℕ → Node) → 0 ≡ total n 0 0
 unfolding total
 none_yet n = refl
 
-pub all_counted : (n : ℕ → Node) (i : ℕ) {k sum : ℕ} → sum ≡ total n 0 i → i ≡ k → (t : Tree) → Laid t n 0 → nodes t ≡ k →
-    sum ≡ length (bytes t)
-all_counted n i e end t l h = e ∙ ap (total n 0) (end ∙ sym h) ∙ total_tree t n 0 l
+pub all_counted : (n : ℕ → Node) (i : ℕ) {end s sum : ℕ} → sum ≡ total n 0 i → i ≤ end → end ≤ i → end ≡ min s tree_room → s ≡ size_of (n 0) →
+    Needed n sum
+all_counted n i {s = s} e low high cut size =
+    record {
+      tree = λ t l few.
+          let whole : s ≡ nodes t = size ∙ sized t n 0 l in
+          e ∙ ap (total n 0) (omega arith) ∙ total_tree t n 0 l;
+    }

@@ -111,9 +111,9 @@ module _ {n : ℕ → Node} {i left k s : ℕ} (some : k ≡ 0 → ⊥) (first :
 pub written_not : {t : Tree} {o : List ℕ} {r : ℕ} → r ≡ length (bytes t) → length o < r → Wrote t o o r
 written_not e h = record { long = e; here = λ f. absurd (omega arith); full = λ f. refl }
 
-pub written_here : {n : ℕ → Node} {left r k : ℕ} {t : Tree} {o o' : List ℕ}
-    → PutTree n 0 left o o' r → Laid t n 0 → nodes t ≡ left → k ≡ length (bytes t) → k ≤ length o → Wrote t o o' r
-written_here {t = t} {o = o} p l e q fits =
-    let s = p.tree t l (omega arith) in
+pub written_here : {n : ℕ → Node} {left k r : ℕ} {t : Tree} {o o' : List ℕ}
+    → PutTree n 0 left o o' r → Laid t n 0 → nodes t ≤ left → k ≡ length (bytes t) → k ≤ length o → Wrote t o o' r
+written_here {t = t} {o = o} p l few q fits =
+    let s = p.tree t l few in
     let long = s.long (omega arith) in
     record { long = long; here = λ f. rw long (s.here (omega arith)); full = λ f. absurd (omega arith) }

@@ -34,9 +34,9 @@ pub record PutAll (n : ℕ → Node) (i left k : ℕ) (before after : List ℕ) 
   pub room : r ≤ length before
   pub trees : (ts : Forest) → LaidAll ts n i → count ts ≡ k → nodes_all ts ≤ left → Stands before after (bytes_all ts) r
 
--- the answer of `needed`: the length of the tree in the first k nodes.
-pub record Needed (n : ℕ → Node) (k r : ℕ) : Type 0 where
-  pub tree : (t : Tree) → Laid t n 0 → nodes t ≡ k → k ≤ tree_room → r ≡ length (bytes t)
+-- the answer of `needed`: the length of the tree that stands from node 0 on.
+pub record Needed (n : ℕ → Node) (r : ℕ) : Type 0 where
+  pub tree : (t : Tree) → Laid t n 0 → nodes t ≤ tree_room → r ≡ length (bytes t)
 
 -- the answer and the output of `write`, for one tree: written whole or not at all
 pub record Wrote (t : Tree) (before after : List ℕ) (r : ℕ) : Type 0 where
@@ -44,6 +44,6 @@ pub record Wrote (t : Tree) (before after : List ℕ) (r : ℕ) : Type 0 where
   pub here : r ≤ length before → after ≡ bytes t ++ drop r before
   pub full : length before < r → after ≡ before
 
--- and for the tree in the first k nodes
-pub record Written (n : ℕ → Node) (k : ℕ) (before after : List ℕ) (r : ℕ) : Type 0 where
-  pub tree : (t : Tree) → Laid t n 0 → nodes t ≡ k → k ≤ tree_room → Wrote t before after r
+-- and for the tree that stands from node 0 on
+pub record Written (n : ℕ → Node) (before after : List ℕ) (r : ℕ) : Type 0 where
+  pub tree : (t : Tree) → Laid t n 0 → nodes t ≤ tree_room → Wrote t before after r

@@ -3,7 +3,8 @@
 // bytes mean nothing, and the walk still ends within the output.
 #![tactic(auto)]
 
-ghost use Rattle.std.specs.Prelude.{◌≡◌, ◌++◌, cond, ◌+◌, ◌*◌, ◌≤◌, length};
+ghost use Rattle.std.specs.Prelude.{◌≡◌, cond, ◌+◌, ◌*◌, ◌≤◌, length};
+ghost use Rattle.std.specs.List.{flat_map};
 ghost use Rattle.condition.specs.Limits.{last_tag, groups, tree_room};
 ghost use Rattle.condition.specs.Bytes.{groups_of, number, written};
 ghost use Rattle.nodes.specs.Memory.{node_at};
@@ -15,9 +16,6 @@ use nodes::{Node, count_at, node_at, size_at};
 
 const SIZE: u64 = GROUP_SIZE as u64;
 
-// The most bytes of a node without its children: four numbers.
-const OWN: usize = 4 * GROUPS as usize;
-
 // A number in at most `groups` groups of seven bits, the shortest form.
 fn put(out: &mut [u8], groups: u32, n: u64) -> usize
     ensures { Put out.old out.new (groups_of groups n) result }
@@ -25,33 +23,39 @@ fn put(out: &mut [u8], groups: u32, n: u64) -> usize
     if groups == 0 {
         return 0;
     }
-    if out.len() == 0 {
+    let Some((first, rest)) = out.split_first_mut() else {
         return 0;
-    }
+    };
     if n < SIZE {
-        out[0] = n as u8;
+        *first = n as u8;
         return 1;
     }
-    out[0] = (SIZE + n % SIZE) as u8;
-    let rest = put(&mut out[1..], groups - 1, n / SIZE);
-    1 + rest
+    *first = (SIZE + n % SIZE) as u8;
+    1 + put(rest, groups - 1, n / SIZE)
 }
 
-// Two numbers, the second after the first.
-fn put_two(out: &mut [u8], a: u64, b: u64) -> usize
-    ensures { Put out.old out.new (number a ++ number b) result }
+// How many bytes such a number takes.
+fn group_count(groups: u32, n: u64) -> usize
+    ensures { (result ≡ length (groups_of groups n)) × (result ≤ groups) }
 {
-    let i = put(out, GROUPS, a);
-    let j = put(&mut out[i..], GROUPS, b);
-    i + j
+    if groups == 0 {
+        0
+    } else if n < SIZE {
+        1
+    } else {
+        1 + group_count(groups - 1, n / SIZE)
+    }
 }
 
-fn put_four(out: &mut [u8], a: u64, b: u64, c: u64, d: u64) -> usize
-    ensures { Put out.old out.new ((number a ++ number b) ++ (number c ++ number d)) result }
+// Numbers, each after the one before it.
+fn put_each(out: &mut [u8], numbers: &[u64]) -> usize
+    ensures { Put out.old out.new (flat_map number numbers.now) result }
 {
-    let i = put_two(out, a, b);
-    let j = put_two(&mut out[i..], c, d);
-    i + j
+    let mut at = 0;
+    for n in numbers {
+        at += put(&mut out[at..], GROUPS, *n);
+    }
+    at
 }
 
 // A tag, or for a negated node the next.
@@ -59,7 +63,7 @@ fn tag(first: u64, so: bool) -> u64
     requires { first ≤ last_tag }
     ensures { result ≡ cond so first (first + 1) }
 {
-    if so { first } else { first + 1 }
+    first + u64::from(!so)
 }
 
 // A bound c as it is written, of c + LARGEST_BOUND.
@@ -67,9 +71,9 @@ fn bound(w: u32) -> u64
     ensures { result ≡ written (shifted w) }
 {
     if w < LARGEST_BOUND {
-        return 2 * ((LARGEST_BOUND - 1 - w) as u64) + 1;
+        return 2 * u64::from(LARGEST_BOUND - 1 - w) + 1;
     }
-    2 * ((w - LARGEST_BOUND) as u64)
+    2 * u64::from(w - LARGEST_BOUND)
 }
 
 // A node without its children.
@@ -77,32 +81,33 @@ fn put_own(out: &mut [u8], node: Node) -> usize
     ensures { Put out.old out.new (own node) result }
 {
     match node {
-        Node::Plain(b) => put(out, GROUPS, tag(0, !b)),
-        Node::Join(all, k, _) => put_two(out, tag(2, all), k as u64),
-        Node::Flag(so, p) => put_two(out, tag(4, so), p as u64),
-        Node::Bound(so, x, y, w) => put_four(out, tag(6, so), x as u64, y as u64, bound(w)),
+        Node::Plain(b) => put_each(out, &[tag(0, !b)]),
+        Node::Join(all, k, _) => put_each(out, &[tag(2, all), u64::from(k)]),
+        Node::Flag(so, p) => put_each(out, &[tag(4, so), u64::from(p)]),
+        Node::Bound(so, x, y, w) => put_each(
+            out,
+            &[tag(6, so), u64::from(x), u64::from(y), bound(w)],
+        ),
     }
 }
 
 // The tree at i, of at most `left` nodes. That i + left is small keeps every sum below from wrapping.
 #[cycle(children_node)]
-fn node(ns: &[u64], i: usize, left: usize, out: &mut [u8]) -> usize
+fn node(ns: &[Node], i: usize, left: usize, out: &mut [u8]) -> usize
     requires { i + left ≤ tree_room }
     ensures { PutTree (node_at ns.now) i left out.old out.new result }
 {
     if left == 0 {
         return 0;
     }
-    let top = node_at(ns, i);
-    let a = put_own(out, top);
-    let k = count_at(ns, i);
-    let b = children(ns, i + 1, left - 1, k, &mut out[a..]);
+    let a = put_own(out, node_at(ns, i));
+    let b = children(ns, i + 1, left - 1, count_at(ns, i), &mut out[a..]);
     a + b
 }
 
 // The k trees from i on, of at most `left` nodes together.
 #[cycle(children_node)]
-fn children(ns: &[u64], i: usize, left: usize, k: u32, out: &mut [u8]) -> usize
+fn children(ns: &[Node], i: usize, left: usize, k: u32, out: &mut [u8]) -> usize
     requires { i + left ≤ tree_room }
     ensures { PutAll (node_at ns.now) i left k out.old out.new result }
 {
@@ -118,40 +123,40 @@ fn children(ns: &[u64], i: usize, left: usize, k: u32, out: &mut [u8]) -> usize
     a + b
 }
 
-// How many bytes a node takes without its children: so many as are written to a room that holds any.
+// How many bytes a node takes without its children: a tag takes one.
 fn own_length(node: Node) -> usize
     ensures { (result ≡ length (own node)) × (result ≤ 4 * groups) }
 {
-    let mut room: [u8; OWN] = [0; OWN];
-    put_own(&mut room, node)
+    match node {
+        Node::Plain(_) => 1,
+        Node::Join(_, k, _) => 1 + group_count(GROUPS, u64::from(k)),
+        Node::Flag(_, p) => 1 + group_count(GROUPS, u64::from(p)),
+        Node::Bound(_, x, y, w) => {
+            1 + group_count(GROUPS, u64::from(x))
+                + group_count(GROUPS, u64::from(y))
+                + group_count(GROUPS, bound(w))
+        }
+    }
 }
 
-// How many bytes the tree in the first n nodes takes.
-pub fn needed(ns: &[u64], n: usize) -> usize
-    ensures { Needed (node_at ns.now) n result }
+// How many bytes the tree that stands from node 0 on takes.
+pub fn needed(ns: &[Node]) -> usize
+    ensures { Needed (node_at ns.now) result }
 {
-    if TREE_ROOM < n {
-        return 0;
-    }
-    let mut sum: usize = 0;
-    let mut i = 0;
-    while i < n {
+    let mut sum = 0;
+    for i in 0..size_at(ns, 0).min(TREE_ROOM) {
         sum += own_length(node_at(ns, i));
-        i += 1;
     }
     sum
 }
 
-// Writes the tree in the first n nodes from the output's start, if it fits; bytes beyond it stay. Returns how many bytes it takes.
-pub fn write(ns: &[u64], n: usize, out: &mut [u8]) -> usize
-    ensures { Written (node_at ns.now) n out.old out.new result }
+// Writes the tree that stands from node 0 on from the output's start, if it fits; bytes beyond it stay. Returns how many bytes it takes.
+pub fn write(ns: &[Node], out: &mut [u8]) -> usize
+    ensures { Written (node_at ns.now) out.old out.new result }
 {
-    if TREE_ROOM < n {
-        return 0;
-    }
-    let all = needed(ns, n);
+    let all = needed(ns);
     if out.len() < all {
         return all;
     }
-    node(ns, 0, n, out)
+    node(ns, 0, TREE_ROOM, out)
 }

@@ -1,98 +1,55 @@
 -- `asking::gather` meets its contract; the connectives that may still nest fall. Each way out is a law of Gathering.antt.
-use mathlib.Core.Path.{sym, ◌∙◌}
+use Prim.Native.Nat.{◌-◌}
+use mathlib.Core.Path.{◌≡◌, refl, sym, ap, ◌∙◌}
 use native.Mathlib.Omega.{arith}
+use lib.ListN.{length, take, length-take, length-drop, length-append}
+use Rattle.nodes.proofs.Memory.{put_here}
+use Rattle.asking.specs.Asked.{turned}
 use Rattle.asking.proofs.Gathering as ways
 use Rattle.asking.proofs.+gather.Goals as goal
 
-pub returns-then-n-eq0 : goal.returns-then-n-eq0
-returns-then-n-eq0 t c = ways.none_left _ _ _ _ _ _ _ c.if-n-eq0.true
+pub returns-in_err-c-in-Join : goal.returns-in_err-c-in-Join
+returns-in_err-c-in-Join t c =
+    ways.nothing _ _ _ _ _ _ c.from_residual.ensures
+    (ways.not_among _ _ _ _ _ _ _ (sym c.node_at.ensures ∙ c.in-Join.is) _ c.rest-below.ensures _ refl c.in_err-c-in-Join.ensures)
 
-pub overflow_add-i : goal.overflow_add-i
-overflow_add-i t c = omega (arith, c.requires)
+pub returns-in_err-trees-in-Join : goal.returns-in_err-trees-in-Join
+returns-in_err-trees-in-Join t c =
+    ways.nothing _ _ _ _ _ _ c.from_residual-in_err-trees-in-Join.ensures
+    (ways.no_child _ _ _ _ _ _ _ (sym c.node_at.ensures ∙ c.in-Join.is) _ c.rest-below.ensures c.in_err-trees-in-Join.ensures)
 
-pub overflow_add-i-in-Join : goal.overflow_add-i-in-Join
-overflow_add-i-in-Join t c = omega (arith, c.requires)
+pub returns-in_err-deep-in-Join : goal.returns-in_err-deep-in-Join
+returns-in_err-deep-in-Join t c =
+    ways.nothing _ _ _ _ _ _ c.from_residual-in_err-deep-in-Join.ensures
+    (ways.too_deep _ _ _ _ _ _ _ (sym c.node_at.ensures ∙ c.in-Join.is) _ c.rest-below.ensures c.in_err-deep-in-Join.ensures)
 
-pub overflow_sub-others : goal.overflow_sub-others
-overflow_sub-others t c = omega (arith, c.if-n-eq0.false)
+pub returns-then-others-trees : goal.returns-then-others-trees
+returns-then-others-trees t c =
+    ways.too_many _ _ _ _ _ _ _ (sym c.node_at.ensures ∙ c.in-Join.is) _ c.rest-below.ensures _ c.in_ok-c-in-Join.ensures _ (λ x. refl)
+    (omega (arith, c.in_ok-trees-in-Join.ensures.1))
 
-pub overflow_sub-others-in-Join : goal.overflow_sub-others-in-Join
-overflow_sub-others-in-Join t c =
-    omega (arith, c.if-n-eq0.false, c.seek-c.ensures.low, c.seek-c.ensures.high)
-
-pub returns-then-depth-eq0 : goal.returns-then-depth-eq0
-returns-then-depth-eq0 t c =
-    ways.too_deep _ _ _ _ _ _ _ _ _ _ (sym c.node_at.ensures ∙ c.in-Join.is) c.if-depth-eq0.true
-
-pub returns-then-k-eq0 : goal.returns-then-k-eq0
-returns-then-k-eq0 t c =
-    ways.no_child _ _ _ _ _ _ _ _ _ _ (sym c.node_at.ensures ∙ c.in-Join.is) c.if-k-eq0.true
-
-pub overflow_sub-k : goal.overflow_sub-k
-overflow_sub-k t c = omega (arith, c.if-k-eq0.false)
-
-pub overflow_cast-k : goal.overflow_cast-k
-overflow_cast-k t c = omega arith
-
-pub returns-then-others-k : goal.returns-then-others-k
-returns-then-others-k t c =
-    ways.too_many _ _ _ _ _ _ _ _ _ _ (sym c.node_at.ensures ∙ c.in-Join.is) _ _ _ c.seek-c.ensures c.if-others-k.true
-
-pub overflow_add-i-in-Join-2 : goal.overflow_add-i-in-Join-2
-overflow_add-i-in-Join-2 t c =
-    omega (arith, c.requires)
-
-pub overflow_sub-n : goal.overflow_sub-n
-overflow_sub-n t c =
-    omega (arith, c.if-n-eq0.false)
-
-pub overflow_sub-depth : goal.overflow_sub-depth
-overflow_sub-depth t c = omega (arith, c.if-depth-eq0.false)
-
-pub overflow_sub-depth-in-Join : goal.overflow_sub-depth-in-Join
-overflow_sub-depth-in-Join t c = omega (arith, c.if-depth-eq0.false)
-
-pub overflow_add-result : goal.overflow_add-result
-overflow_add-result t c =
-    let seek = c.seek-c
-    in
-    omega (arith, c.requires, c.gather-r.ensures.small, seek.ensures.low, seek.ensures.high)
-
-pub overflow_sub-result : goal.overflow_sub-result
-overflow_sub-result t c =
-    omega (arith, c.if-k-eq0.false)
-
-pub overflow_add-result-in-Join : goal.overflow_add-result-in-Join
-overflow_add-result-in-Join t c =
-    omega (arith, c.requires, c.gather-r.ensures.few, c.seek-c.ensures.low, c.seek-c.ensures.high, c.if-others-k.false)
-
-pub bounds-out-0 : goal.bounds-out-0
-bounds-out-0 t c =
-    omega (arith, c.requires, c.if-n-eq0.false)
-
-pub bounds-out-0-in-Bound : goal.bounds-out-0-in-Bound
-bounds-out-0-in-Bound t c =
-    omega (arith, c.requires, c.if-n-eq0.false)
+pub returns-in_err-r-in-Join : goal.returns-in_err-r-in-Join
+returns-in_err-r-in-Join t c =
+    let others = length c.args.out.now - 1 - c.in_ok-c-in-Join.c.size in
+    let first : length (take others c.args.out.now) ≡ others = simp length-take (omega arith) in
+    ways.nothing _ _ _ _ _ _ c.from_residual-in_err-r-in-Join.ensures
+    (ways.not_below _ _ _ _ _ _ _ (sym c.node_at.ensures ∙ c.in-Join.is) _ c.rest-below.ensures _ c.in_ok-c-in-Join.ensures _ c.rest.ensures _ _
+    (simp (length-take, length-drop, length-append) (omega (arith, c.in_ok-c-in-Join.ensures.high))) c.in_ok-deep-in-Join.ensures.1
+    c.in_err-r-in-Join.ensures)
 
 pub returns-in-Plain : goal.returns-in-Plain
-returns-in-Plain t c =
-    ways.constant _ _ _ _ _ _ _ _ (sym c.node_at.ensures ∙ c.in-Plain.is)
+returns-in-Plain t c = ways.constant _ _ _ _ _ (sym c.node_at.ensures ∙ c.in-Plain.is)
 
-pub returns-else-others-k : goal.returns-else-others-k
-returns-else-others-k t c =
-    ways.connective_lent _ _ _ _ _ _ _ _ _ (sym c.node_at.ensures ∙ c.in-Join.is) _ _ _ c.seek-c.ensures
-    c.siblings.new.out c.gather-r.new.out _ _ c.if-n-eq0.false c.if-k-eq0.false c.if-others-k.false
-    (omega (arith, c.requires, c.out-1.given))
-    (let k = c.out-in-Join-1.given in omega arith) c.siblings.ensures c.gather-r.ensures
+pub returns-in_ok-r-in-Join : goal.returns-in_ok-r-in-Join
+returns-in_ok-r-in-Join t c =
+    let others = length c.args.out.now - 1 - c.in_ok-c-in-Join.c.size in
+    let first : length (take others c.args.out.now) ≡ others = simp length-take (omega arith) in
+    ways.connective_lent _ _ _ _ _ _ (sym c.node_at.ensures ∙ c.in-Join.is) _ c.rest-below.ensures _ c.args.out.now c.in_ok-c-in-Join.ensures
+    _ c.rest.ensures _ c.siblings.new.out c.gather.new.out _ _ _ _ _ _ c.requires c.in_ok-trees-in-Join.ensures c.in_ok-deep-in-Join.ensures
+    c.if-others-trees.false c.siblings.ensures c.in_ok-r-in-Join.ensures first
+    (simp (length-take, length-drop, length-append) (omega (arith, c.in_ok-c-in-Join.ensures.high))) (omega arith) (omega arith)
 
-pub returns-in-Flag : goal.returns-in-Flag
-returns-in-Flag t c =
-    ways.a_flag _ _ _ _ _ _ _ _ _ (sym c.node_at.ensures ∙ c.in-Flag.is) c.if-n-eq0.false
-    (ways.end_put c.args.ns.now c.args.out.now c.args.p.at c.args.opposite c.word_at.result c.turn.result
-    (omega (arith, c.requires, c.if-n-eq0.false)) c.word_at.ensures c.turn.ensures)
-
-pub returns-in-Bound : goal.returns-in-Bound
-returns-in-Bound t c =
-    ways.a_bound _ _ _ _ _ _ _ _ _ _ _ (sym c.node_at.ensures ∙ c.in-Bound.is) c.if-n-eq0.false
-    (ways.end_put c.args.ns.now c.args.out.now c.args.p.at c.args.opposite c.word_at-in-Bound.result c.turn-in-Bound.result
-    (omega (arith, c.requires, c.if-n-eq0.false)) c.word_at-in-Bound.ensures c.turn-in-Bound.ensures)
+pub returns-in_default : goal.returns-in_default
+returns-in_default t c =
+    ways.an_end_put _ _ _ _ _ _ _ (sym c.node_at.ensures) c.in_default.not-Plain c.in_default.not-Join c.requires
+    (put_here c.args.out.now 0 _ c.requires ∙ c.turn.ensures ∙ ap (turned c.args.opposite) c.node_at.ensures)

@@ -5,7 +5,7 @@ use Rattle.asking.proofs.Seeking.{Seeking}
 use Rattle.asking.proofs.seek.Given as goal
 
 abbrev pub invariant-loop-at : goal.invariant-loop-at
-invariant-loop-at l = Seeking (node_at l.ns) l.i l.last l.m l.at l.end
+invariant-loop-at l = Seeking (node_at l.ns) l.n l.m l.at l.end
 
 abbrev pub decreases-loop-at : goal.decreases-loop-at
-decreases-loop-at l = l.last - l.at
+decreases-loop-at l = l.n - l.at

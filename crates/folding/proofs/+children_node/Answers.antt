@@ -1,64 +1,61 @@
 -- `folding::node` and `folding::children` meet their contracts, a cycle of calls in which the nodes left fall: `node` spends one,
 -- `children` at least one a child. Each way out is a law of Walk.antt.
-use mathlib.Core.Path.{refl, sym, ◌∙◌}
+use Prim.Native.Nat.{◌<◌}
+use mathlib.Core.Path.{sym, ◌∙◌}
 use native.Mathlib.Omega.{arith}
+use borrow.Author.Rules.{rules}
+use lib.ListN.{length, length-take, length-drop}
+use Rattle.std.proofs.Common.{inl, inr}
+use Rattle.std.proofs.lemmas.List.{places}
+use Rattle.nodes.specs.declared.Node.{Node}
 use Rattle.folding.proofs.Walk as walk
 use Rattle.folding.proofs.+children_node.Goals as goal
 
 pub children-returns-then-k-eq0 : goal.children-returns-then-k-eq0
-children-returns-then-k-eq0 t c = rw c.some_kids.ensures (walk.none_folded _ _ _ _ _ _ _ _ _ c.if-k-eq0.true)
-
-pub children-returns-then-left-s : goal.children-returns-then-left-s
-children-returns-then-left-s t c =
-    rw c.some_kids-then-left-s.ensures
-    (walk.too_long _ _ _ _ _ _ _ _ _ c.if-k-eq0.false _ c.size_at-s.ensures.0 c.if-left-s.true)
-
-pub children-overflow_add-rest : goal.children-overflow_add-rest
-children-overflow_add-rest t c =
-    omega (arith, c.requires, c.children-rest.ensures.few)
-
-pub children-overflow_add-size : goal.children-overflow_add-size
-children-overflow_add-size t c =
-    omega (arith, c.requires, c.node-first.ensures.small, c.children-rest.ensures.small)
-
-pub children-returns-then-kind-eq2 : goal.children-returns-then-kind-eq2
-children-returns-then-kind-eq2 t c =
-    rw c.some_kids-then-kind-eq2.ensures
-    (walk.child_kept _ _ _ _ _ _ _ _ _ c.if-k-eq0.false _ c.size_at-s.ensures.0 c.if-left-s.false c.size_at-s.ensures.1 _ _
-    c.node-first.ensures _ _ _ c.children-rest.ensures (omega arith) c.if-kind-eq2.true refl)
-
-pub children-returns-then-kind-kind_of : goal.children-returns-then-kind-kind_of
-children-returns-then-kind-kind_of t c =
-    walk.child_dropped _ _ _ _ _ _ _ _ _ c.if-k-eq0.false _ c.size_at-s.ensures.0 c.if-left-s.false c.size_at-s.ensures.1 _ _
-    c.node-first.ensures _ _ _ c.children-others.ensures (omega arith) (c.if-kind-kind_of.true ∙ c.kind_of.ensures) refl
-
-pub children-returns : goal.children-returns
-children-returns t c =
-    rw c.some_kids-2.ensures
-    (walk.child_decides _ _ _ _ _ _ _ _ _ c.if-k-eq0.false _ c.size_at-s.ensures.0 c.if-left-s.false c.size_at-s.ensures.1 _ _
-    c.node-first.ensures _ _ _ c.children-others.ensures (omega arith) c.if-kind-eq2.false (λ q. c.if-kind-kind_of.false (q ∙ sym c.kind_of.ensures)))
-
-pub node-returns-then-left-eq0 : goal.node-returns-then-left-eq0
-node-returns-then-left-eq0 t c =
-    rw c.a_kid.ensures (walk.nothing_left c.args.ns.now _ _ _ _ _ _ c.if-left-eq0.true)
+children-returns-then-k-eq0 t c =
+    walk.none_folded _ _ _ _ _ _ _ c.size_at-s.result c.size_at-s.ensures.0
+    (λ z. elim c.then-k-eq0.either [ inl none ↦ absurd (z none) | inr long ↦ long.1 ])
 
 pub node-returns-in-Plain : goal.node-returns-in-Plain
 node-returns-in-Plain t c =
-    rw c.a_kid-in-Plain.ensures
-    (walk.plain_folded c.args.ns.now _ _ _ _ _ _ _ c.if-left-eq0.false _ c.node_at-n.ensures _ _ c.in-Plain.is
-    (omega (arith, c.requires)) c.put_node.ensures c.kind_of.ensures)
-
-pub node-returns-in-Flag : goal.node-returns-in-Flag
-node-returns-in-Flag t c =
-    walk.flag_folded c.args.ns.now _ _ _ _ _ _ _ c.if-left-eq0.false _ c.node_at-n.ensures _ _ _ c.in-Flag.is
-    c.end.ensures
-
-pub node-returns-in-Bound : goal.node-returns-in-Bound
-node-returns-in-Bound t c =
-    walk.bound_folded c.args.ns.now _ _ _ _ _ _ _ c.if-left-eq0.false _ c.node_at-n.ensures _ _ _ _ _ c.in-Bound.is
-    c.end-in-Bound.ensures
+    walk.plain_folded _ _ _ _ _ _ _ (sym c.node_at.ensures ∙ c.in-Plain.is) c.requires.0 c.put_constant.ensures
 
 pub node-returns-in-Join : goal.node-returns-in-Join
 node-returns-in-Join t c =
-    walk.join_folded c.args.ns.now _ _ _ _ _ _ _ c.if-left-eq0.false _ c.node_at-n.ensures _ _ _ _ _ _ c.in-Join.is
-    c.children-rest.ensures c.shut.ensures
+    walk.join_folded _ _ _ _ _ _ _ _ _ _ _ _ _ (sym c.node_at.ensures ∙ c.in-Join.is) c.requires.0 c.children-kept.ensures
+    (λ z lt. search (rules, places)) c.shut.ensures
+
+pub node-returns-in_default : goal.node-returns-in_default
+node-returns-in_default t c =
+    walk.an_end_folded _ _ _ _ _ _ _ _ (sym c.node_at.ensures) c.in_default.not-Plain c.in_default.not-Join c.requires.0 c.end.ensures
+
+pub children-returns-in_err-others-in-None : goal.children-returns-in_err-others-in-None
+children-returns-in_err-others-in-None t c =
+    rw c.from_residual.ensures
+    (walk.others_decide _ _ _ _ _ _ c.if-k-eq0.false _ c.size_at-s.ensures.0 c.if-left-s.false c.size_at-s.ensures.1 _ _ _ c.node-first.ensures
+    _ _ _ c.children.ensures _ c.in_err-others-in-None.was)
+
+pub children-returns-in_err-others-in-Some : goal.children-returns-in_err-others-in-Some
+children-returns-in_err-others-in-Some t c =
+    rw c.from_residual-in_err-others-in-Some.ensures
+    (walk.others_decide _ _ _ _ _ _ c.if-k-eq0.false _ c.size_at-s.ensures.0 c.if-left-s.false c.size_at-s.ensures.1 _ _ _ c.node-first.ensures
+    _ _ _ c.children-in-Some.ensures _ c.in_err-others-in-Some.was)
+
+pub children-returns-in_ok-others-in-None : goal.children-returns-in_ok-others-in-None
+children-returns-in_ok-others-in-None t c =
+    walk.child_kept _ _ _ _ _ _ c.if-k-eq0.false _ c.size_at-s.ensures.0 c.if-left-s.false c.size_at-s.ensures.1 _ _ _ c.node-first.ensures
+    _ _ _ c.children.ensures _ _ c.in_ok-others-in-None.was c.in-None.is
+    (λ v lt. search (rules, places)) (λ v lt.
+    let long : v < length c.children.new.out =
+    omega (arith, c.in_ok-others-in-None.ensures.small, length-take {A = Node}, length-drop {A = Node}) in
+    search (rules, places))
+
+pub children-returns-then-b-all : goal.children-returns-then-b-all
+children-returns-then-b-all t c =
+    walk.child_dropped _ _ _ _ _ _ c.if-k-eq0.false _ c.size_at-s.ensures.0 c.if-left-s.false c.size_at-s.ensures.1 _ _ _ c.node-first.ensures
+    _ _ _ c.in_ok-others-in-Some.ensures _ c.in-Some.is c.if-b-all.true
+
+pub children-returns-else-b-all : goal.children-returns-else-b-all
+children-returns-else-b-all t c =
+    walk.child_decides _ _ _ _ _ _ c.if-k-eq0.false _ c.size_at-s.ensures.0 c.if-left-s.false c.size_at-s.ensures.1 _ _ _ c.node-first.ensures
+    _ _ _ c.children-in-Some.ensures _ _ c.in-Some.is c.if-b-all.false

@@ -1,23 +1,24 @@
 -- `folding::shut` meets its contract: each way out is a law of Puts.antt.
 use native.Mathlib.Omega.{arith}
+use mathlib.Core.Path.{ap}
+use Rattle.folding.specs.Parts.{size_kept}
 use Rattle.folding.proofs.Puts.{shut_decided, shut_none, shut_one, shut_more}
 use Rattle.folding.proofs.shut.Goals as goal
 
-pub returns-then-left : goal.returns-then-left
-returns-then-left c =
-    rw c.a_kid.ensures
-    (shut_decided _ _ _ _ _ (omega arith) _ c.if-left.true c.put_node.ensures c.kind_of.ensures)
+pub returns-in_default : goal.returns-in_default
+returns-in_default c = shut_decided _ _ _ _ _ c.in_default.is c.put_constant.ensures
 
-pub returns-then-count-eq0 : goal.returns-then-count-eq0
-returns-then-count-eq0 c =
-    rw c.a_kid-then-count-eq0.ensures
-    (shut_none _ _ _ _ _ (omega arith) c.if-left.false _ c.if-count-eq0.true c.put_node-then-count-eq0.ensures c.kind_of-then-count-eq0.ensures)
+pub returns-then-left-eq0 : goal.returns-then-left-eq0
+returns-then-left-eq0 c =
+    shut_none _ _ _ c.in-Some.is _ _ _ c.if-left-eq0.true c.put_constant-then-left-eq0.ensures
 
-pub returns-then-count-eq-ONE_LEFT : goal.returns-then-count-eq-ONE_LEFT
-returns-then-count-eq-ONE_LEFT c =
-    rw c.a_kid-then-count-eq-ONE_LEFT.ensures (shut_one _ _ _ _ _ (omega arith) c.if-left.false c.if-count-eq-ONE_LEFT.true c.slide.ensures)
+pub returns-then-left-eq-ONE_LEFT : goal.returns-then-left-eq-ONE_LEFT
+returns-then-left-eq-ONE_LEFT c =
+    rw c.copy_within.ensures.after
+    (shut_one _ _ _ c.in-Some.is c.args.out.now c.if-left-eq-ONE_LEFT.true (omega (arith, ap size_kept c.in-Some.is)))
+
+pub overflow_cast-out : goal.overflow_cast-out
+overflow_cast-out c = omega (arith, ap size_kept c.in-Some.is)
 
 pub returns : goal.returns
-returns c =
-    rw c.a_kid-2.ensures
-    (shut_more _ _ _ _ _ (omega arith) c.if-left.false c.if-count-eq0.false c.if-count-eq-ONE_LEFT.false (omega arith) (omega arith) c.put_node-2.ensures)
+returns c = shut_more _ _ _ c.in-Some.is c.args.out.now c.if-left-eq0.false c.if-left-eq-ONE_LEFT.false (omega arith)

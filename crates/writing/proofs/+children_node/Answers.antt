@@ -1,8 +1,6 @@
 -- `writing::node` and `writing::children` meet their contracts, a cycle of calls in which the nodes left fall: `node` spends one, `children`
 -- at least one a child. Each way out is a law of Walk.antt.
 use mathlib.Core.Path.{refl}
-use native.Mathlib.Omega.{arith}
-use Rattle.writing.proofs.Room.{within}
 use Rattle.writing.proofs.Walk as walk
 use Rattle.writing.proofs.+children_node.Goals as goal
 
@@ -13,31 +11,15 @@ pub children-returns-then-left-s : goal.children-returns-then-left-s
 children-returns-then-left-s t c =
     walk.too_long c.if-k-eq0.false c.size_at-s.ensures.0 c.if-left-s.true
 
-pub children-overflow_add-result : goal.children-overflow_add-result
-children-overflow_add-result t c =
-    omega (
-      arith,
-      within c.args.out.now c.node-a.new.out c.node-a.result _ c.children-b.result c.out-1.given refl
-          c.node-a.ensures.room c.children-b.ensures.room,
-    )
-
 pub children-returns : goal.children-returns
 children-returns t c =
-    walk.more_put c.if-k-eq0.false c.size_at-s.ensures.0 _ _ _ _ _ _ c.if-left-s.false c.out-1.given
+    walk.more_put c.if-k-eq0.false c.size_at-s.ensures.0 _ _ _ _ _ _ c.if-left-s.false c.node-a.auto.out
     refl c.node-a.ensures c.children-b.ensures
 
 pub node-returns-then-left-eq0 : goal.node-returns-then-left-eq0
 node-returns-then-left-eq0 t c = walk.nothing_left c.if-left-eq0.true
 
-pub node-overflow_add-result : goal.node-overflow_add-result
-node-overflow_add-result t c =
-    omega (
-      arith,
-      within c.args.out.now c.put_own-a.new.out c.put_own-a.result _ c.children-b.result c.out-1.given refl
-          c.put_own-a.ensures.room c.children-b.ensures.room,
-    )
-
 pub node-returns : goal.node-returns
 node-returns t c =
-    walk.node_put _ _ _ _ _ _ _ _ _ _ _ c.node_at-top.ensures c.count_at-k.ensures c.out-1.given refl
+    walk.node_put _ _ _ _ _ _ _ _ _ _ _ c.node_at.ensures c.count_at.ensures c.put_own-a.auto.out refl
     c.put_own-a.ensures c.children-b.ensures

@@ -1,4 +1,4 @@
--- What falls in the calls of `writing::put`; Answers.antt says the argument.
+-- What falls in the calls of `writing::put`.
 use Rattle.writing.proofs.+put.Given as goal
 
 abbrev pub decreases-put : goal.decreases-put

@@ -1,5 +1,0 @@
--- `writing::tag` meets its contract.
-use Rattle.writing.proofs.tag.Goals as goal
-
-pub returns-else-so : goal.returns-else-so
-returns-else-so c = simp c.if-so.false
