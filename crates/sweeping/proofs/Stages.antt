@@ -112,8 +112,8 @@ module _ {n : ℕ → Node} {ration : ℕ} {tree : List Node} {end : ℕ} {known
   }
 
 -- a tree just folded, at its first question
-module _ {o tree : List Node} {r size end : ℕ} {known : List Bool} (wide : tree_room ≤ length o) (lives : Lives (node_at tree) r)
-    (twice : end ≡ 2 * r) (unknown : known ≡ replicate questions false) where
+module _ {tree : List Node} {r end : ℕ} {known : List Bool} (lives : Lives (node_at tree) r) (twice : end ≡ 2 * r)
+    (unknown : known ≡ replicate questions false) where
   anew : {t : Tree} (u : Tree) (asked : ℕ) → Reached over (next sat) asked (start (fold t)) (start u) → Laid u (node_at tree) 0 →
       nodes u ≤ tree_room → Within u → At t tree end known 0 asked
   anew u asked reached laid few limits = record {
@@ -126,9 +126,10 @@ module _ {o tree : List Node} {r size end : ℕ} {known : List Bool} (wide : tre
     knows = rw unknown (nothing u questions);
   }
 
-  pub begins : {n : ℕ → Node} {ration : ℕ} → Folded n None o tree size → Goes n ration tree end known 0 0
+  pub begins : {n : ℕ → Node} {ration size : ℕ} {o : List Node} → tree_room ≤ length o → Folded n None o tree size →
+      Goes n ration tree end known 0 0
   unfolding run
-  begins {n} f = record {
+  begins {n} wide f = record {
     near = omega (arith, lives.few);
     within = omega arith;
     stands = λ t l few limits.
@@ -137,12 +138,12 @@ module _ {o tree : List Node} {r size end : ℕ} {known : List Bool} (wide : tre
   }
 
   -- a yes
-  pub cuts : {n : ℕ → Node} {ration : ℕ} {old : List Node} {end₀ : ℕ} {known₀ known₁ : List Bool} {q asked : ℕ} →
+  pub cuts : {n : ℕ → Node} {ration size : ℕ} {o old : List Node} {end₀ : ℕ} {known₀ known₁ : List Bool} {q asked : ℕ} →
       Goes n ration old end₀ known₀ q asked → asked < ration → q < end₀ →
-      {v : Bool} → Replies (node_at old) q known₀ v known₁ → v ≡ true →
+      {v : Bool} → Replies (node_at old) q known₀ v known₁ → v ≡ true → tree_room ≤ length o →
       Folded (node_at old) (Some (record { end = q / 2; to = eqb (q % 2) 0 })) o tree size → Goes n ration tree end known 0 (asked + 1)
   unfolding next
-  cuts {old = old} {q = q} {asked = asked} goes less more replies e f = record {
+  cuts {size = size} {old = old} {q = q} {asked = asked} goes less more replies e wide f = record {
     near = omega (arith, lives.few);
     within = omega arith;
     stands = λ t l few limits.
@@ -151,7 +152,7 @@ module _ {o tree : List Node} {r size end : ℕ} {known : List Bool} (wide : tre
         let so : answer sat (numbered a.present q) ≡ true = sym (right goes less more replies a).0 ∙ e in
         let go : next sat (numbered a.present q) ≡ start (fold u) = simp so in
         let g = f.is a.present a.laid a.few wide (omega (arith, a.ends)) in
-        let g' : Laid (fold u) (node_at tree) 0 × (size ≡ nodes (fold u)) = rw first_is q at g in
+        let g' : Laid (fold u) (node_at tree) 0 × (size ≡ nodes (fold u)) = rw (first_is q) at g in
         anew (fold u) (asked + 1) (stepped goes less more replies a go) g'.0
         (omega (arith, f.small, a.few, sized a.present (node_at old) 0 a.laid, g'.1))
         (cut_within a.present (q / 2) (not (eqb (q % 2) 1)) a.limits);

@@ -8,12 +8,12 @@ use Rattle.sweeping.proofs.sweep.Goals.{then-loop-asked-test+else-q-end, else-lo
 
 pub loop-asked-init : goal.loop-asked-init
 loop-asked-init c =
-    begins (omega arith) c.live.ensures refl c.none-kept.ensures c.fold.ensures
+    begins c.live-end.ensures refl c.none-kept.ensures (omega arith) c.fold-end.ensures
 
 pub loop-asked-preserved-then-yes : goal.loop-asked-preserved-then-yes
 loop-asked-preserved-then-yes c =
-    cuts (omega arith) c.live-then-yes.ensures refl c.another_tree.ensures
-    c.loop-asked.invariant c.loop-asked-test.true c.if-q-end.true c.answer-yes.ensures c.if-yes.true c.fold-then-yes.ensures
+    cuts c.live-end-then-yes.ensures refl c.another_tree.ensures c.loop-asked.invariant c.loop-asked-test.true c.if-q-end.true
+    c.answer-yes.ensures c.if-yes.true (omega arith) c.fold.ensures
 
 pub loop-asked-preserved : goal.loop-asked-preserved
 loop-asked-preserved c =
