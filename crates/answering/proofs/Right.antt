@@ -2,11 +2,12 @@
 use Prim.Native.Nat.{ℕ, ◌<◌}
 use mathlib.Core.Path.{◌≡◌, refl, sym, ap, ◌∙◌}
 use mathlib.Core.List.{List}
-use mathlib.Core.Bool.{Bool, true, false, not, false≢true}
+use mathlib.Core.Bool.{Bool, true, false, not, not-not, false≢true}
 use mathlib.Core.Logic.{◌↔◌}
 use native.Mathlib.Omega.{arith}
 use lib.IntN.{ℤ}
 use lib.ListN.{length}
+use Rattle.std.specs.Prelude.{Option, Some, None}
 use Rattle.condition.specs.Limits.{question_room}
 use Rattle.condition.specs.Meaning.{Assignment, Tree, leaf, holds, negate, given}
 use Rattle.condition.specs.Satisfying.{Satisfiable}
@@ -19,10 +20,9 @@ use Rattle.condition.proofs.Depth.{not_deeper}
 use Rattle.condition.proofs.Deciding.{sat_same}
 use Rattle.nodes.specs.declared.Node.{Node}
 use Rattle.nodes.specs.Memory.{node_at}
+use Rattle.nodes.proofs.Laws.{sized}
 use Rattle.asking.specs.Asked.{asked, question as written, Asks}
 use Rattle.asking.proofs.Means.{question_holds, question_named}
-use Rattle.settling.specs.declared.Verdict.{Verdict}
-use Rattle.settling.specs.declared.Verdict.TheVariants.{Found, Nothing}
 use Rattle.settling.specs.Settled.{Right, Finds}
 use Rattle.answering.specs.Answered.{yes, Answers}
 
@@ -38,30 +38,26 @@ unfolding question
 same t i second a h =
     question_holds t i (not second) a h ∙ ap (λ u. holds (both (critical t i) u) a) (asked_is second t i)
 
-decides : (u : Tree) (v : Verdict) (numbers : List ℤ) → Right u v numbers → (not (yes v) ≡ true) ↔ Satisfiable u
-decides u (Found bits) numbers h = ((λ e. (given bits numbers, h.0)), λ s. refl)
-decides u Nothing numbers h = ((λ e. absurd (false≢true e)), λ s. absurd (h s))
+decides : (u : Tree) (v : Option ℕ) (numbers : List ℤ) → Right u v numbers → (not (yes v) ≡ true) ↔ Satisfiable u
+decides u (Some bits) numbers h = ((λ e. (given bits numbers, h.0)), λ s. refl)
+decides u None numbers h = ((λ e. absurd (false≢true e)), λ s. absurd (h s))
 
-not_twice : (b : Bool) → b ≡ not (not b)
-not_twice true = refl
-not_twice false = refl
-
-answered : (t : Tree) (i : ℕ) (second : Bool) (v : Verdict) (numbers : List ℤ) → i < live t →
+answered : (t : Tree) (i : ℕ) (second : Bool) (v : Option ℕ) (numbers : List ℤ) → i < live t →
     Right (written t i (not second)) v numbers → yes v ≡ answer sat (stage t i second)
 unfolding answer
 answered t i second v numbers h right =
     let d = decides (written t i (not second)) v numbers right in
-    not_twice (yes v) ∙ ap not (sat_same (not (yes v)) (question (stage t i second)) (
+    sym (not-not (yes v)) ∙ ap not (sat_same (not (yes v)) (question (stage t i second)) (
       (λ e. let s = d.0 e in (s.0, sym (same t i second s.0 h) ∙ s.1)),
       λ s. d.1 (s.0, same t i second s.0 h ∙ s.1),
     ))
 
-pub answers : (n : ℕ → Node) (size at : ℕ) (second : Bool) (o o' : List ℕ) (r : ℕ) (numbers numbers' : List ℤ) (v : Verdict) →
-    length o ≡ question_room → Asks n size at (not second) o r o' → Finds (node_at o') r numbers v numbers' → Answers n size at second numbers v
-answers n size at second o o' r numbers numbers' v wide asks finds = record {
-  right = λ fifteen t laid is near within end.
-      let a = asks.right t laid is near (omega arith) end (not_deeper t within) in
-      let right = finds.right fifteen (written t at (not second)) a.0 (sym a.1) (omega (arith, asks.small))
+pub answers : (n : ℕ → Node) (at : ℕ) (second : Bool) (o o' : List Node) (r : ℕ) (numbers numbers' : List ℤ) (v : Option ℕ) →
+    length o ≡ question_room → Asks n at (not second) o r o' → Finds (node_at o') numbers v numbers' → Answers n at second numbers v
+answers n at second o o' r numbers numbers' v wide asks finds = record {
+  right = λ fifteen t laid near within end.
+      let a = asks.right t laid near (omega arith) end (not_deeper t within) in
+      let right = finds.right fifteen (written t at (not second)) a.0 (omega (arith, a.1, asks.small, sized t n 0 laid))
       (question_named t at (not second) within.formed) in
       answered t at second v numbers' end right;
 }

@@ -1,5 +1,5 @@
 -- The answer to a question about a tree in memory is the one of the sweep's definition.
-use Rattle.std.specs.Prelude.{ℕ, ◌<◌, ◌≡◌, List, Bool, true, false, ℤ, length}
+use Rattle.std.specs.Prelude.{ℕ, ◌<◌, ◌≡◌, List, Bool, true, false, Option, Some, None, ℤ, length}
 use Rattle.condition.specs.Limits.{last_number, question_room}
 use Rattle.condition.specs.Meaning.{Tree, Within}
 use Rattle.condition.specs.Folding.{live}
@@ -7,14 +7,12 @@ use Rattle.condition.specs.Deciding.{sat}
 use Rattle.condition.specs.Sweep.{stage, answer}
 use Rattle.nodes.specs.declared.Node.{Node}
 use Rattle.nodes.specs.Laid.{nodes, Laid}
-use Rattle.settling.specs.declared.Verdict.{Verdict}
-use Rattle.settling.specs.declared.Verdict.TheVariants.{Found, Nothing}
 
 -- nothing found is a yes
-abbrev pub yes : Verdict → Bool
-yes (Found bits) = false
-yes Nothing = true
+abbrev pub yes : Option ℕ → Bool
+yes (Some bits) = false
+yes None = true
 
-pub record Answers (n : ℕ → Node) (size at : ℕ) (second : Bool) (numbers : List ℤ) (r : Verdict) : Type 0 where
-  pub right : length numbers ≡ last_number → (t : Tree) → Laid t n 0 → nodes t ≡ size → size < question_room → Within t → at < live t →
+pub record Answers (n : ℕ → Node) (at : ℕ) (second : Bool) (numbers : List ℤ) (r : Option ℕ) : Type 0 where
+  pub right : length numbers ≡ last_number → (t : Tree) → Laid t n 0 → nodes t < question_room → Within t → at < live t →
       yes r ≡ answer sat (stage t at second)

@@ -6,13 +6,13 @@ ghost use Rattle.nodes.specs.Memory.{node_at};
 ghost use Rattle.answering.specs.Answered.{Answers};
 
 use condition::{QUESTION_ROOM, Whole};
-use settling::Verdict;
+use nodes::Node;
 
-// Question one about end `at`, counted from 0, of the tree in the first n nodes; or (second) question two.
-pub fn answer(ns: &[u64], n: usize, at: usize, second: bool, numbers: &mut [Whole]) -> Verdict
-    ensures { Answers (node_at ns.now) n at second numbers.old result }
+// Question one about end `at`, counted from 0, of the tree laid from node 0; or (second) question two.
+pub fn answer(ns: &[Node], at: usize, second: bool, numbers: &mut [Whole]) -> Option<u32>
+    ensures { Answers (node_at ns.now) at second numbers.old result }
 {
-    let mut question = [0u64; QUESTION_ROOM];
-    let size = asking::ask(ns, n, at, !second, &mut question);
-    settling::find(&question, size, numbers)
+    let mut question = [Node::Plain(false); QUESTION_ROOM];
+    asking::ask(ns, at, !second, &mut question);
+    settling::find(&question, numbers)
 }

@@ -1,5 +1,5 @@
--- A bound kept with one offset is the same bound kept with another, and a negated bound is again a bound, the other way round: adding
--- the one is adding the other, since the same assignments meet both.
+-- A negated bound, kept with one offset, is again a bound, kept with another, the other way round: adding the one is adding the other,
+-- since the same assignments meet both.
 use Prim.Native.Nat.{ℕ, ◌+◌}
 use mathlib.Core.Path.{◌≡◌, sym, ◌∙◌}
 use mathlib.Core.Logic.{◌↔◌}
@@ -25,14 +25,6 @@ adds_as s h = record {
 }
 
 module _ (x y m n c d : ℕ) (a : Assignment) where
-  same_bound : m + d ≡ c + n → (met (at_most x y (pos m -ℤ pos n)) a ≡ true) ↔ (met (at_most x y (pos c -ℤ pos d)) a ≡ true)
-  same_bound e =
-      let kept = at_most_lem x y (pos m -ℤ pos n) a in
-      let same = at_most_lem x y (pos c -ℤ pos d) a in (
-        (λ h. same.1 (omega (arith, kept.0 h, minus m n, minus c d))),
-        (λ h. kept.1 (omega (arith, same.0 h, minus m n, minus c d))),
-      )
-
   negated_bound : m + c + 1 ≡ n + d → (met (at_most y x (pos m -ℤ pos n)) a ≡ true) ↔ (met (above x y (pos c -ℤ pos d)) a ≡ true)
   negated_bound e =
       let z = pos c -ℤ pos d in
@@ -43,8 +35,5 @@ module _ (x y m n c d : ℕ) (a : Assignment) where
       )
 
 module _ {t t' : List ℕ} {ok : Bool} (x y m n c d : ℕ) where
-  pub adds_bound : Adds t (at_most x y (pos m -ℤ pos n)) ok t' → m + d ≡ c + n → Adds t (at_most x y (pos c -ℤ pos d)) ok t'
-  adds_bound h e = adds_as (λ a. same_bound x y m n c d a e) h
-
   pub adds_negated : Adds t (at_most y x (pos m -ℤ pos n)) ok t' → m + c + 1 ≡ n + d → Adds t (above x y (pos c -ℤ pos d)) ok t'
   adds_negated h e = adds_as (λ a. negated_bound x y m n c d a e) h

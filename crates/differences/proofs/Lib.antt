@@ -4,7 +4,6 @@ pub mod Lowered
 pub mod Bounds
 pub mod Parts
 pub mod Starts
-pub mod Row
 pub mod Rows
 pub mod Shown
 pub mod Unique

@@ -8,8 +8,6 @@ use native.Mathlib.Omega.{arith}
 use lib.IntN.{ℤ, pos, negsuc, nat_abs, ◌-ℤ◌}
 use lib.ListN.{get_or}
 use lib.Signed.{mag}
-use mir.Syntax.{w32}
-use mir.Val.{SFits}
 use Rattle.condition.specs.Limits.{last_number}
 use Rattle.condition.specs.Meaning.{value}
 use Rattle.condition.specs.Satisfying.{farthest}
@@ -21,21 +19,14 @@ mag_size (pos n) = omega arith
 mag_size (negsuc n) = omega arith
 
 module _ {t : List ℕ} (i : ℕ) (p : Closed t × (i ≤ last_number)) where
-  -- the code reads i * 16, and the cell is at i * 16 + 0
-  column : cell t i 0 ≡ get_or t (i * numbers) 0
-  column = rw add-zero
-
-  pub read_fits : SFits w32 (pos (get_or t (i * numbers) 0))
-  read_fits = record { sfits = omega (arith, column, p.0.high i p.1) }
-
   entry_value : (flags : ℕ → Bool) → value (tightest flags t) i ≡ entry t i 0
   entry_value flags = tightest_value p.0 flags i p.1
 
   entry_range : nat_abs (entry t i 0) ≤ farthest
   entry_range = rw (entry_value (λ q. false)) at (tightest_range p.0 (λ q. false) i p.1)
 
-  pub shown : Shown t i (pos (get_or t (i * numbers) 0) -ℤ pos offset)
-  shown = rw (← column) (record { shown = λ flags. sym (entry_value flags); range = entry_range })
-
-  pub shown_fits : SFits w32 (pos (get_or t (i * numbers) 0) -ℤ pos offset)
-  shown_fits = record { sfits = omega (arith, mag_size (pos (get_or t (i * numbers) 0) -ℤ pos offset), shown.range) }
+  -- the code reads the cell at i * 16 + 0 as the one at i * 16
+  pub shown : (z : ℤ) → z ≡ pos (get_or t (i * numbers) 0) -ℤ pos offset → Shown t i z
+  shown z e =
+      let column : cell t i 0 ≡ get_or t (i * numbers) 0 = rw add-zero in
+      rw (e, ← column) (record { shown = λ flags. sym (entry_value flags); range = entry_range })

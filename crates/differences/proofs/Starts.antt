@@ -1,14 +1,13 @@
 -- The first table is closed, since a number is as far from another as both are from 0, and says just that the numbers are in range.
 -- It is made by turns: turn n puts the entries of number n beside number 0 and beside itself, and leaves the others.
 use Prim.Native.Nat.{ℕ, zero, suc, ◌+◌, ◌*◌, ◌≤◌, ◌<◌, min}
-use mathlib.Core.Path.{◌≡◌, refl, sym, subst, ap, ◌∙◌}
+use mathlib.Core.Path.{◌≡◌, refl, sym, ap, ◌∙◌}
 use mathlib.Core.List.{List}
 use mathlib.Core.Bool.{cond}
 use native.Mathlib.Omega.{arith}
 use native.Mathlib.Decide.{ℕ_discrete}
 use lib.Dec.{eqb}
-use lib.ListN.{length, get_or, set, replicate, length-set, length-replicate, get_or-replicate}
-use lib.Seq.{get_or-set_same, get_or-set_other}
+use lib.ListN.{length, replicate, length-replicate, get_or-replicate}
 use borrow.Author.Tests.{eq-eqb, ne_eqb}
 use Rattle.condition.specs.Limits.{last_number}
 use Rattle.condition.specs.Meaning.{Assignment, value}
@@ -74,49 +73,6 @@ begun_none = record {
   column = λ i h. absurd (omega arith);
   rest = λ i j hi hj ne. get_or-replicate cells (i * numbers + j) (offset + 2 * farthest) 0 (omega arith);
 }
-
-module _ (t : List ℕ) (n : ℕ) (b : Begun t n) (h : n < numbers) where
-  abbrev beside : List ℕ
-  beside = set (set t n (offset + farthest)) (n * numbers) (offset + farthest)
-
-  abbrev turned : List ℕ
-  turned = set beside (n * numbers + n) offset
-
-  long : length beside ≡ cells
-  long = simp length-set b.size
-
-  others : (k : ℕ) → (k ≡ n → ⊥) → (k ≡ n * numbers → ⊥) → (k ≡ n * numbers + n → ⊥) → get_or turned k 0 ≡ get_or t k 0
-  others k p q r =
-      get_or-set_other beside (n * numbers + n) k offset 0 r
-      ∙ get_or-set_other (set t n (offset + farthest)) (n * numbers) k (offset + farthest) 0 q
-      ∙ get_or-set_other t n k (offset + farthest) 0 p
-
-  -- an entry that turn n makes, or one made before
-  now_or_before : (P : ℕ → Type 0) → (i : ℕ) → i < n + 1 → P n → (i < n → P i) → P i
-  now_or_before P i l p q = elim (ℕ_discrete i n) [ yes e ↦ subst P (sym e) p | no ne ↦ q (omega arith) ]
-
-  pub begun_more : Begun turned (n + 1)
-  begun_more = record {
-    few = omega arith;
-    size = simp length-set b.size;
-    same = λ i l. now_or_before (λ i. cell turned i i ≡ offset) i l
-        (get_or-set_same beside (n * numbers + n) offset 0 (omega (arith, long)))
-        (λ m. others (i * numbers + i) (λ e. omega arith) (λ e. omega arith) (λ e. omega arith) ∙ b.same i m);
-    row = λ j l s. now_or_before (λ j. 1 ≤ j → cell turned 0 j ≡ offset + farthest) j l
-        (λ z. get_or-set_other beside (n * numbers + n) (0 * numbers + n) offset 0 (λ e. omega arith)
-        ∙ get_or-set_other (set t n (offset + farthest)) (n * numbers) (0 * numbers + n) (offset + farthest) 0 (λ e. omega arith)
-        ∙ ap (λ k. get_or (set t n (offset + farthest)) k 0) (omega arith)
-        ∙ get_or-set_same t n (offset + farthest) 0 (omega (arith, b.size)))
-        (λ m z. others (0 * numbers + j) (λ e. omega arith) (λ e. omega arith) (λ e. omega arith) ∙ b.row j m z)
-        s;
-    column = λ i l s. now_or_before (λ i. 1 ≤ i → cell turned i 0 ≡ offset + farthest) i l
-        (λ z. get_or-set_other beside (n * numbers + n) (n * numbers + 0) offset 0 (λ e. omega arith)
-        ∙ ap (λ k. get_or beside k 0) (omega arith)
-        ∙ get_or-set_same (set t n (offset + farthest)) (n * numbers) (offset + farthest) 0 (simp length-set (omega (arith, b.size))))
-        (λ m z. others (i * numbers + 0) (λ e. omega arith) (λ e. omega arith) (λ e. omega arith) ∙ b.column i m z)
-        s;
-    rest = λ i j hi hj ne. others (i * numbers + j) (λ e. omega arith) (λ e. omega arith) (λ e. ne (omega arith)) ∙ b.rest i j hi hj ne;
-  }
 
 module _ (t : List ℕ) (n : ℕ) (b : Begun t n) (full : numbers ≤ n) where
   made : (i j : ℕ) → i ≤ last_number → j ≤ last_number → cell t i j ≡ first i j

@@ -25,39 +25,29 @@ pub fn start() -> [Distance; CELLS]
     ensures { Starts result }
 {
     let mut t: [Distance; CELLS] = [OFFSET + 2 * FARTHEST; CELLS];
-    let mut i: usize = 0;
-    while i < NUMBERS {
+    for i in 0..NUMBERS {
         t[i] = OFFSET + FARTHEST;
         t[i * NUMBERS] = OFFSET + FARTHEST;
         t[i * NUMBERS + i] = OFFSET;
-        i += 1;
     }
     t
 }
 
-// An entry, or the way round by the new bound where that is less.
-fn lower(old: Distance, left: Distance, right: Distance) -> Distance
-    requires { (2 * offset ≤ left + right) × (left + right ≤ 6 * offset) }
-    ensures { result ≡ min old (left + right - 2 * offset) }
-{
-    let through = left + right - 2 * OFFSET;
-    if through < old { through } else { old }
-}
-
-// Lowers row i in place: `left` is its way to y, and row y, which is another, goes on from there.
+// Lowers row i in place to the way round by the new bound, where that is less: `left` is the row's way to y, and row y, which is
+// another, goes on from there.
 fn lower_row(t: &mut [Distance; CELLS], i: usize, y: usize, left: Distance)
     requires { Lowers t.old i y left }
     ensures { Part (i * numbers) (i * numbers + numbers) (lowered t.old y left) t.old t.new }
 {
-    let mut j: usize = 0;
-    while j < NUMBERS {
-        t[i * NUMBERS + j] = lower(t[i * NUMBERS + j], left, t[y * NUMBERS + j]);
-        j += 1;
+    for j in 0..NUMBERS {
+        let round = left + t[y * NUMBERS + j] - 2 * OFFSET;
+        t[i * NUMBERS + j] = t[i * NUMBERS + j].min(round);
     }
 }
 
 // Works x - y <= c in, where c is the bound with the offset. If the way from y to x and c sum below 0, the two contradict each other.
 // If the entry is as tight already, nothing changes; else only the rows whose way to y is shorter by c do, and row y is none of them.
+#[tactic(auto, using(crate::proofs::Lowered::between_upper, crate::proofs::Rows::row_upper))]
 fn work_in(t: &mut [Distance; CELLS], x: usize, y: usize, c: Distance) -> bool
     requires { Ready t.old x y × (c ≤ 2 * offset) }
     ensures { Adds t.old (at_most x y (pos c -ℤ pos offset)) result t.new }
@@ -68,13 +58,11 @@ fn work_in(t: &mut [Distance; CELLS], x: usize, y: usize, c: Distance) -> bool
     if t[x * NUMBERS + y] <= c {
         return true;
     }
-    let mut i: usize = 0;
-    while i < NUMBERS {
+    for i in 0..NUMBERS {
         let left = t[i * NUMBERS + x] + c;
         if left < t[i * NUMBERS + y] + OFFSET {
             lower_row(t, i, y, left);
         }
-        i += 1;
     }
     true
 }

@@ -1,8 +1,9 @@
 -- Children before others: opening an `and` puts its children where it stood, and nothing else changes.
 use Prim.Native.Nat.{ℕ, ◌+◌, ◌≤◌}
 use mathlib.Core.Path.{◌≡◌, refl, sym, subst, ap, ◌∙◌}
-use mathlib.Core.Bool.{Bool, true, false, ◌&&◌}
+use mathlib.Core.Bool.{◌&&◌}
 use native.Mathlib.Omega.{arith}
+use Rattle.std.proofs.Math.Bool.{and_assoc}
 use Rattle.condition.specs.Meaning.{Assignment, all, Tree, Forest, none, more, each, holds}
 use Rattle.condition.specs.Satisfying.{Named, NamedAll}
 use Rattle.nodes.specs.declared.Node.{Node}
@@ -29,22 +30,10 @@ module _ (us : Forest) where
   append_named none f g = g
   append_named (more t ts) f g = (f.0, append_named ts f.1 g)
 
-and_again : (x y z : Bool) → ((x && y) && z) ≡ (x && (y && z))
-and_again true y z = refl
-and_again false y z = refl
-
 pub append_each : (ts us : Forest) (a : Assignment) → each (append ts us) all a ≡ (each ts all a && each us all a)
 unfolding append holds
 append_each none us a = refl
-append_each (more t ts) us a = ap (λ x. holds t a && x) (append_each ts us a) ∙ sym (and_again (holds t a) (each ts all a) (each us all a))
-
--- both of two, and one of two
-pub both : (x y : Bool) → (x && y) ≡ true → (x ≡ true) × (y ≡ true)
-both true y e = (refl, e)
-both false y e = (e, absurd (let z : ◌≡◌ {A = ℕ} 0 1 = cc in omega arith))
-
-pub together : {x y : Bool} → x ≡ true → y ≡ true → (x && y) ≡ true
-together p q = rw (p, q)
+append_each (more t ts) us a = ap (λ x. holds t a && x) (append_each ts us a) ∙ sym (and_assoc (holds t a) (each ts all a) (each us all a))
 
 -- trees that have a node: a first one, and the others
 pub record First (us : Forest) : Type 0 where

@@ -1,37 +1,39 @@
--- What each way out of `guess`, `any` and `find` shows. With no `or` left, the table's own assignment finishes the work. A child that
+-- What each way out of `guess`, `attempt` and `find` shows. With no `or` left, the table's own assignment finishes the work. A child that
 -- fails rules itself out, so what is left to try is the others. From the range to all whole numbers goes the small-model fact.
-use Prim.Native.Nat.{ℕ, zero, suc, ◌+◌, ◌-◌, ◌*◌, ◌≤◌, ◌<◌}
+use Prim.Native.Nat.{ℕ, zero, suc, ◌+◌, ◌-◌, ◌≤◌, ◌<◌}
 use mathlib.Core.Path.{◌≡◌, refl, sym, subst, ap, ◌∙◌}
 use mathlib.Core.List.{List, [], ◌∷◌}
-use mathlib.Core.Bool.{Bool, true, false, ◌&&◌, ◌||◌}
+use mathlib.Core.Logic.{◌↔◌}
+use mathlib.Core.Bool.{Bool, true, false, ◌||◌, true≢false}
 use native.Mathlib.Omega.{arith}
 use native.Mathlib.Decide.{dec_le}
-use lib.Dec.{eqb}
 use lib.IntN.{ℤ, pos}
 use lib.ListN.{length, get_or, get_or-eq_default}
-use borrow.Author.Tests.{eq-eqb, ne_eqb, eqb-true}
-use Rattle.condition.specs.Limits.{last_boolean, last_number, question_room}
+use Rattle.std.specs.Prelude.{Option, Some, None}
+use Rattle.std.specs.Option.{unwrap_or}
+use Rattle.std.proofs.lemmas.Option.{none-some}
+use Rattle.std.proofs.lemmas.Bool.{and_parts, and_from}
+use Rattle.condition.specs.Limits.{last_boolean, booleans, last_number, question_room}
 use Rattle.condition.specs.Meaning.{Assignment, value, met, any, Tree, Forest, none, more, count, holds, each, given}
 use Rattle.condition.specs.Satisfying.{Satisfiable, Named, NamedAll}
 use Rattle.condition.proofs.Small.{small}
-use Rattle.differences.specs.Table.{Meets, Closed, tightest, Starts}
+use Rattle.differences.specs.Table.{Meets, Closed, tightest}
 use Rattle.differences.proofs.Closed.{tightest_meets}
 use Rattle.nodes.specs.declared.Node.{Node}
 use Rattle.nodes.specs.Memory.{count_of, size_of}
 use Rattle.nodes.specs.Laid.{nodes, nodes_all, Laid, LaidAll}
 use Rattle.nodes.proofs.Laws.{some_node, sized, counted, at_none, at_more}
-use Rattle.settling.specs.declared.Verdict.{Verdict}
-use Rattle.settling.specs.declared.Verdict.TheVariants.{Found, Nothing}
-use Rattle.settling.specs.Settled.{side, Agrees, Stands, Waits, owed, bulk, Work, Done, Settles}
-use Rattle.settling.specs.Settled.{Bits, Shows, Answers, Chosen, Guesses, Attempts, Tries, Right, Finds}
-use Rattle.settling.proofs.Forests.{both, together, nothing_left}
-use Rattle.settling.proofs.Taking.{differ}
+use Rattle.settling.specs.declared.settled.Settled.{Settled}
+use Rattle.settling.specs.declared.settled.Found.{Found}
+use Rattle.settling.specs.Settled.{Agrees, Clear, Stands, Waits, owed, bulk, Work, Done, Settles}
+use Rattle.settling.specs.Settled.{Bits, Shows, Answers, Chosen, Guesses, Attempts, Finds}
+use Rattle.settling.proofs.Forests.{nothing_left}
+use Rattle.settling.proofs.Taking.{kept}
 
 -- an answer about one claim is one about an equal claim
-answers_same : (P Q : Assignment → Type 0) → ((a : Assignment) → P a → Q a) → ((a : Assignment) → Q a → P a) →
-    (r : Verdict) (numbers : List ℤ) → Answers P r numbers → Answers Q r numbers
-answers_same P Q f g (Found bits) numbers h = f _ h
-answers_same P Q f g Nothing numbers h = λ a q. h a (g a q)
+answers_same : {P Q : Assignment → Type 0} → ((a : Assignment) → P a ↔ Q a) → (r : Option Found) → Answers P r → Answers Q r
+answers_same f (Some x) h = (f _).0 h
+answers_same f None h = λ a q. h a ((f a).1 q)
 
 -- ---- the assignment shown
 
@@ -48,272 +50,267 @@ given_meets bits numbers t c s = record {
       ((tightest_meets c (λ p. true)).each i j hi hj);
 }
 
-given_agrees : (bits : ℕ) (numbers : List ℤ) (b : List ℕ) → length b ≡ 32 → Bits b bits → Agrees b (given bits numbers)
+given_agrees : (bits : ℕ) (numbers : List ℤ) (b : List (Option Bool)) → length b ≡ booleans → Bits b bits → Agrees b (given bits numbers)
 unfolding given
 given_agrees bits numbers b z h = record {
   says = λ p so e. elim (dec_le p last_boolean) [
-    | yes l ↦ h.each p l ∙ told so (get_or b p 0) e
-    | no g ↦ absurd (beyond so (get_or b p 0) e (get_or-eq_default b 0 (omega arith)))
+    | yes l ↦ h.each p l ∙ ap (λ x. unwrap_or x false) e
+    | no g ↦ absurd (none-some so (sym (get_or-eq_default b None (omega arith)) ∙ e))
   ];
 }
+
+-- nothing waits
+pub guess_done : (n : ℕ → Node) (s : Settled) (left : ℕ) → s.many ≡ 0 → length s.flags ≡ booleans → (bits : ℕ) (numbers : List ℤ) →
+    Bits s.flags bits → Shows s.table numbers → Guesses n s left (Some (record { bits = bits; numbers = numbers }))
+unfolding Waits owed holds
+guess_done n s left z size bits numbers h shows os w few time = by os w
   where
-    told : (so : Bool) (x : ℕ) → x ≡ side so → eqb x 1 ≡ so
-    told true x e = eq-eqb x 1 e
-    told false x e = ne_eqb x 1 (λ q. omega arith)
+    by : (os : List Tree) → Waits os n s.ors s.many → Done s none os (given bits numbers)
+    by [] w = record {
+      knows = record { flags = given_agrees bits numbers s.flags size h; numbers = given_meets bits numbers s.table s.closed shows };
+      each = refl;
+      owed = refl;
+    }
+    by (u ∷ os) w = absurd (omega (arith, w.0))
 
-    beyond : (so : Bool) (x : ℕ) → x ≡ side so → x ≡ 0 → ⊥
-    beyond true x e z = omega arith
-    beyond false x e z = omega arith
+-- ---- guess: the `or` on top, child by child
 
--- ---- guess
+-- what is left to try: k trees from node `from` on, in place of the `or`s os
+pub record Rest (n : ℕ → Node) (s : Settled) (left from k : ℕ) (os : List Tree) : Type 0 where
+  pub us : Forest
+  pub under : List Tree
+  pub work : Work n from us s.ors (s.many - 1) under
+  pub many : count us ≡ k
+  pub time : bulk under + nodes_all us < left
+  pub same : (a : Assignment) → Chosen s us under a ↔ Done s none os a
 
-module _ (n : ℕ → Node) (o : List ℕ) (many : ℕ) (b t : List ℕ) (left : ℕ) (numbers : List ℤ) where
-  pub guess_found : many ≡ 0 → Closed t → length b ≡ 32 → (bits : ℕ) (numbers' : List ℤ) → Bits b bits → Shows t numbers' →
-      Guesses n o many b t left numbers (Found bits) numbers'
-  unfolding Waits owed holds
-  guess_found z c zb bits numbers' h s = record {
-    kept = λ e. absurd (let q : ◌≡◌ {A = ℕ} 0 1 = cc in omega arith);
-    right = λ os w few time. by os w;
-  }
-    where
-      by : (os : List Tree) → Waits os n o many → Done b t none os (given bits numbers')
-      by [] w = record {
-        knows = record { flags = given_agrees bits numbers' b zb h; numbers = given_meets bits numbers' t c s };
-        each = refl;
-        owed = refl;
-      }
-      by (u ∷ os) w = absurd (omega (arith, w.0))
+pub record Left (n : ℕ → Node) (s : Settled) (left from k : ℕ) : Type 0 where
+  pub small : from ≤ 256
+  pub rest : (os : List Tree) → Waits os n s.ors s.many → bulk os ≤ question_room → bulk os ≤ left → Rest n s left from k os
 
-  pub guess_none : ((os : List Tree) → Waits os n o many → bulk os ≤ question_room → 3 * bulk os < left → ⊥) →
-      Guesses n o many b t left numbers Nothing numbers
-  guess_none h = record { kept = λ e. refl; right = λ os w few time. absurd (h os w few time) }
+module _ (n : ℕ → Node) (s : Settled) (left : ℕ) where
+  pub guess_late : (s.many ≡ 0 → ⊥) → left ≡ 0 → Guesses n s left None
+  unfolding Waits bulk
+  guess_late nz z [] w few time = absurd (nz w)
+  guess_late nz z (u ∷ os) w few time = absurd (omega (arith, some_node u))
 
-  pub guess_any : (many ≡ 0 → ⊥) → (i k : ℕ) → i ≡ get_or o (many - 1) 0 → k ≡ count_of (n i) → (r : Verdict) (numbers' : List ℤ) →
-      Tries n (i + 1) k o (many - 1) b t (left - 1) numbers r numbers' → Guesses n o many b t left numbers r numbers'
+  pub guess_begun : (s.many ≡ 0 → ⊥) → (top k : ℕ) → top < 256 → top ≡ get_or s.ors (s.many - 1) 0 → k ≡ count_of (n top) →
+      Left n s left (top + 1) k
   unfolding Waits owed bulk nodes holds
-  guess_any nz i k ei ek r numbers' h = record { kept = h.kept; right = λ os w few time. by os w few time }
+  guess_begun nz top k small et ek = record { small = omega arith; rest = by }
     where
-      by : (os : List Tree) → Waits os n o many → bulk os ≤ question_room → 3 * bulk os < left → Answers (Done b t none os) r numbers'
+      by : (os : List Tree) → Waits os n s.ors s.many → bulk os ≤ question_room → bulk os ≤ left → Rest n s left (top + 1) k os
       by [] w few time = absurd (nz w)
       by (u ∷ os) w few time =
           let x = w.1 in
-          let st : Stands u n i = subst (Stands u n) (sym ei) w.2 in
-          let s : nodes u ≡ nodes_all x.ts + 1 = ap nodes x.same in
-          let c = counted n i x.ts any (subst (λ y. Laid y n i) x.same st.laid) in
-          answers_same (Chosen b t x.ts os) (Done b t none (u ∷ os))
-          (λ a d. record { knows = d.knows; each = refl; owed = together (ap (λ y. holds y a) x.same ∙ d.one) d.owed })
-          (λ a d. let q = both (holds u a) (owed os a) d.owed in record
-          { knows = d.knows; one = sym (ap (λ y. holds y a) x.same) ∙ q.0; owed = q.1 })
-          r numbers'
-          (h.right x.ts os (record {
-            laid = c.1;
-            named = x.named;
-            waits = w.3;
-            near = omega (arith, st.near);
-            few =
-                omega arith;
-          }) (sym (ek ∙ c.0)) (omega arith))
+          let st : Stands u n top = subst (Stands u n) (sym et) w.2 in
+          let size : nodes u ≡ nodes_all x.ts + 1 = ap nodes x.same in
+          let c = counted n top x.ts any (subst (λ y. Laid y n top) x.same st.laid) in
+          record {
+            us = x.ts;
+            under = os;
+            work = record { laid = c.1; named = x.named; waits = w.3; near = omega (arith, st.near); few = omega arith };
+            many = sym (ek ∙ c.0);
+            time = omega arith;
+            same = λ a. (
+              (λ d. record { knows = d.knows; each = refl; owed = and_from _ _ (ap (λ y. holds y a) x.same ∙ d.one) d.owed }),
+              (λ d. let q = and_parts (holds u a) (owed os a) d.owed in record
+                  { knows = d.knows; one = sym (ap (λ y. holds y a) x.same) ∙ q.0; owed = q.1 }),
+            );
+          }
+
+  module _ (from k : ℕ) (p : Left n s left from k) where
+    pub guess_over : k ≡ 0 → Guesses n s left None
+    unfolding holds
+    guess_over z os w few time a d =
+        let r = p.rest os w few time in
+        let c = (r.same a).1 d in
+        true≢false (sym (ap (λ x. each x any a) (sym (at_none r.us k r.many z)) ∙ c.one))
+
+    module _ (nz : k ≡ 0 → ⊥) (size : ℕ) (is : size ≡ size_of (n from)) where
+      pub guess_far : question_room < from + size → Guesses n s left None
+      guess_far far os w few time a d =
+          let r = p.rest os w few time in
+          let f = at_more r.us n from k r.many nz r.work.laid in
+          omega (arith, sized f.t n from f.laid, f.total, r.work.near)
+
+      -- the first child alone, and the others
+      record Child (os : List Tree) : Type 0 where
+        r : Rest n s left from k os
+        u : Tree
+        others : Forest
+        both : r.us ≡ more u others
+        work : Work n from (more u none) s.ors (s.many - 1) r.under
+        end : from + nodes_all (more u none) ≡ from + size
+        work' : Work n (from + size) others s.ors (s.many - 1) r.under
+        fewer : count others ≡ k - 1
+        total : nodes_all r.us ≡ nodes_all (more u none) + nodes_all others
+
+      child : (os : List Tree) → Waits os n s.ors s.many → bulk os ≤ question_room → bulk os ≤ left → Child os
+      unfolding nodes Laid Named
+      child os w few time =
+          let r = p.rest os w few time in
+          let f = at_more r.us n from k r.many nz r.work.laid in
+          let z : from + size ≡ from + nodes f.t = ap (λ x. from + x) (is ∙ sized f.t n from f.laid) in
+          let g : NamedAll (more f.t f.us) = subst NamedAll f.forest r.work.named in
+          let v = r.work in
+          record {
+            r = r;
+            u = f.t;
+            others = f.us;
+            both = f.forest;
+            work = record
+                { laid = (f.laid, tt); named = (g.0, tt); waits = v.waits; near = omega (arith, v.near, f.total); few = omega (arith, v.few, f.total) };
+            end = omega arith;
+            work' = record {
+              laid = subst (LaidAll f.us n) (sym z) f.others;
+              named = g.1;
+              waits = v.waits;
+              near = omega (arith, v.near, f.total);
+              few = omega (arith, v.few, f.total);
+            };
+            fewer = f.many;
+            total = omega (arith, f.total);
+          }
+
+      -- it makes the whole true
+      chosen_first : (os : List Tree) (c : Child os) (a : Assignment) → Done s (more c.u none) c.r.under a → Chosen s c.r.us c.r.under a
+      unfolding holds
+      chosen_first os c a d = record {
+        knows = d.knows;
+        one = ap (λ x. each x any a) c.both ∙ ap (λ x. x || each c.others any a) (and_parts (holds c.u a) true d.each).0;
+        owed = d.owed;
+      }
+
+      -- if it can't, the others must
+      chosen_rest : (os : List Tree) (c : Child os) → ((a : Assignment) → Done s (more c.u none) c.r.under a → ⊥) →
+          (a : Assignment) → Chosen s c.others c.r.under a ↔ Chosen s c.r.us c.r.under a
+      unfolding holds
+      chosen_rest os c no_one a = (
+        (λ d. record { knows = d.knows; one = ap (λ x. each x any a) c.both ∙ more_true (holds c.u a) d.one; owed = d.owed }),
+        (λ d. record { knows = d.knows; one = by (holds c.u a) refl d (sym (ap (λ x. each x any a) c.both) ∙ d.one); owed = d.owed }),
+      )
+        where
+          more_true : (v : Bool) → each c.others any a ≡ true → (v || each c.others any a) ≡ true
+          more_true true e = refl
+          more_true false e = e
+
+          by : (v : Bool) → holds c.u a ≡ v → Chosen s c.r.us c.r.under a → (v || each c.others any a) ≡ true → each c.others any a ≡ true
+          by true e d q = absurd (no_one a (record { knows = d.knows; each = and_from _ _ e refl; owed = d.owed }))
+          by false e d q = q
+
+      pub guess_found : (f : Found) → Attempts n from (from + size) s (left - 1) (Some f) → Guesses n s left (Some f)
+      guess_found f h os w few time =
+          let c = child os w few time in
+          (c.r.same _).0 (chosen_first os c _ (h (more c.u none) c.r.under c.work c.end (omega (arith, c.total, c.r.time))))
+
+      pub guess_next : from + size ≤ question_room → (k' : ℕ) → k' ≡ k - 1 → Attempts n from (from + size) s (left - 1) None →
+          Left n s left (from + size) k'
+      guess_next near k' one h = record {
+        small = omega arith;
+        rest = λ os w few time.
+            let c = child os w few time in
+            let no_one = h (more c.u none) c.r.under c.work c.end (omega (arith, c.total, c.r.time)) in
+            record {
+              us = c.others;
+              under = c.r.under;
+              work = c.work';
+              many = c.fewer ∙ sym one;
+              time = omega (arith, c.total, c.r.time);
+              same = λ a. let q = chosen_rest os c no_one a in ((λ d. (c.r.same a).0 (q.0 d)), (λ d. q.1 ((c.r.same a).1 d)));
+            };
+      }
 
 -- ---- attempt
 
-module _ (n : ℕ → Node) (from to : ℕ) (o : List ℕ) (many : ℕ) (b t : List ℕ) (left : ℕ) (numbers : List ℤ) where
-  pub attempt_late : left ≡ 0 → Attempts n from to o many b t left numbers Nothing numbers
-  attempt_late z = record { kept = λ e. refl; right = λ us os w e time. absurd (omega arith) }
+-- the copy has all that is settled, without the `or` on top
+module _ (n : ℕ → Node) (from to : ℕ) (s : Settled) (left : ℕ) (copy : Settled) (ors : copy.ors ≡ s.ors) (many : copy.many ≡ s.many - 1)
+    (flags : copy.flags ≡ s.flags) (table : copy.table ≡ s.table) where
+  work : (us : Forest) (os : List Tree) → Work n from us s.ors (s.many - 1) os → Work n from us copy.ors copy.many os
+  work us os w = rw (ors, many) w
 
-  module _ (ok : Bool) (o' : List ℕ) (many' : ℕ) (b' t' : List ℕ) (s : Settles n from to o many b t ok o' many' b' t') where
-    pub attempt_stopped : ok ≡ false → Attempts n from to o many b t left numbers Nothing numbers
-    attempt_stopped y = record { kept = λ e. refl; right = λ us os w e time. s.stops y us os w e }
+  done : (us : Forest) (os : List Tree) (a : Assignment) → Done copy us os a ↔ Done s us os a
+  done us os a = (
+    (λ d. record { knows = kept flags table a d.knows; each = d.each; owed = d.owed }),
+    (λ d. record { knows = kept (sym flags) (sym table) a d.knows; each = d.each; owed = d.owed }),
+  )
 
-    pub attempt_guessed : ok ≡ true → (r : Verdict) (numbers' : List ℤ) → Guesses n o' many' b' t' (left - 1) numbers r numbers' →
-        Attempts n from to o many b t left numbers r numbers'
-    attempt_guessed y r numbers' g = record {
-      kept = g.kept;
-      right = λ us os w e time.
-          let q = s.goes y us os w e in
-          let m = nothing_left q.us' (omega (arith, q.end)) in
-          answers_same (Done b' t' none q.os') (Done b t us os)
-          (λ a d. (q.same a).0 (subst (λ x. Done b' t' x q.os' a) (sym m) d))
-          (λ a d. subst (λ x. Done b' t' x q.os' a) m ((q.same a).1 d))
-          r numbers'
-          (g.right q.os' q.work.waits (omega (arith, q.work.few)) (omega (arith, q.less)));
-    }
-
--- ---- any
-
-module _ (n : ℕ → Node) (i k : ℕ) (o : List ℕ) (many : ℕ) (b t : List ℕ) (left : ℕ) (numbers : List ℤ) where
-  pub try_none : ((us : Forest) (os : List Tree) → Work n i us o many os → count us ≡ k →
-      3 * (bulk os + nodes_all us) + 2 < left → 1 ≤ nodes_all us → ⊥) →
-      Tries n i k o many b t left numbers Nothing numbers
-  unfolding holds nodes
-  try_none h = record { kept = λ e. refl; right = λ us os w e time. by us os w e time }
-    where
-      by : (us : Forest) (os : List Tree) → Work n i us o many os → count us ≡ k → 3 * (bulk os + nodes_all us) + 2 < left →
-          (a : Assignment) → Chosen b t us os a → ⊥
-      by none os w e time a d = differ (sym d.one)
-      by (more u us) os w e time a d = h (more u us) os w e time (omega (arith, some_node u))
-
-  pub try_zero : k ≡ 0 → Tries n i k o many b t left numbers Nothing numbers
-  unfolding nodes
-  try_zero z = try_none (λ us os w e time some. let m = ap nodes_all (at_none us k e z) in omega arith)
-
-  module _ (nz : k ≡ 0 → ⊥) (s : ℕ) (size : s ≡ size_of (n i)) where
-    pub try_far : question_room < i + s → Tries n i k o many b t left numbers Nothing numbers
-    try_far far = try_none (λ us os w e time some.
-        let f = at_more us n i k e nz w.laid in
-        omega (arith, sized f.t n i f.laid, f.total, w.near))
-
-    -- the first child alone, and the others
-    record Child (us : Forest) (os : List Tree) : Type 0 where
-      u : Tree
-      rest : Forest
-      same : us ≡ more u rest
-      work : Work n i (more u none) o many os
-      end : i + nodes_all (more u none) ≡ i + s
-      others : Work n (i + s) rest o many os
-      fewer : count rest ≡ k - 1
-      total : nodes_all us ≡ nodes_all (more u none) + nodes_all rest
-      some : 1 ≤ nodes_all (more u none)
-
-    child : (us : Forest) (os : List Tree) → Work n i us o many os → count us ≡ k → Child us os
-    unfolding nodes Laid Named
-    child us os w e =
-        let f = at_more us n i k e nz w.laid in
-        let z : i + s ≡ i + nodes f.t = ap (λ x. i + x) (size ∙ sized f.t n i f.laid) in
-        let g : NamedAll (more f.t f.us) = subst NamedAll f.forest w.named in
-        record {
-          u = f.t;
-          rest = f.us;
-          same = f.forest;
-          work = record
-              { laid = (f.laid, tt); named = (g.0, tt); waits = w.waits; near = omega (arith, w.near, f.total); few = omega (arith, w.few, f.total) };
-          end = omega arith;
-          others = record {
-            laid = subst (LaidAll f.us n) (sym z) f.others;
-            named = g.1;
-            waits = w.waits;
-            near = omega
-                (arith, w.near, f.total);
-            few = omega (arith, w.few, f.total);
-          };
-          fewer = f.many;
-          total = omega (arith, f.total);
-          some = omega (arith, some_node f.t);
-        }
-
-    -- it makes the whole true
-    chosen_first : (us : Forest) (os : List Tree) (c : Child us os) (a : Assignment) → Done b t (more c.u none) os a → Chosen b t us os a
-    unfolding holds
-    chosen_first us os c a d = record {
-      knows = d.knows;
-      one = ap (λ x. each x any a) c.same ∙ ap (λ x. x || each c.rest any a) (both (holds c.u a) true d.each).0;
-      owed = d.owed;
-    }
-
-    -- if it can't, the others must
-    chosen_rest : (us : Forest) (os : List Tree) (c : Child us os) → ((a : Assignment) → Done b t (more c.u none) os a → ⊥) →
-        (a : Assignment) → Chosen b t us os a → Chosen b t c.rest os a
-    unfolding holds
-    chosen_rest us os c no_one a d = record {
-      knows = d.knows;
-      one = by (holds c.u a) refl (sym (ap (λ x. each x any a) c.same) ∙ d.one);
-      owed = d.owed;
-    }
-      where
-        by : (v : Bool) → holds c.u a ≡ v → (holds c.u a || each c.rest any a) ≡ true → each c.rest any a ≡ true
-        by true e q = absurd (no_one a (record { knows = d.knows; each = together e refl; owed = d.owed }))
-        by false e q = sym (ap (λ x. x || each c.rest any a) e) ∙ q
-
-    chosen_more : (us : Forest) (os : List Tree) (c : Child us os) (a : Assignment) → Chosen b t c.rest os a → Chosen b t us os a
-    unfolding holds
-    chosen_more us os c a d = record {
-      knows = d.knows;
-      one = ap (λ x. each x any a) c.same ∙ by (holds c.u a);
-      owed = d.owed;
-    }
-      where
-        by : (v : Bool) → (v || each c.rest any a) ≡ true
-        by true = refl
-        by false = d.one
-
-    module _ (r : Verdict) (numbers₁ : List ℤ) (g : Attempts n i (i + s) o many b t (left - 1) numbers r numbers₁) where
-      attempted : (us : Forest) (os : List Tree) (c : Child us os) → 3 * (bulk os + nodes_all us) + 2 < left →
-          Answers (Done b t (more c.u none) os) r numbers₁
-      attempted us os c time = g.right (more c.u none) os c.work c.end (omega (arith, c.total))
-
-      pub try_found : (bits : ℕ) → r ≡ Found bits → Tries n i k o many b t left numbers r numbers₁
-      try_found bits e = record {
-        kept = g.kept;
-        right = λ us os w q time. let c = child us os w q in
-            rw e (chosen_first us os c (given bits numbers₁) (rw e at (attempted us os c time)));
-      }
-
-      pub try_rest : r ≡ Nothing → (r' : Verdict) (numbers' : List ℤ) →
-          Tries n (i + s) (k - 1) o many b t (left - 1) numbers₁ r' numbers' → Tries n i k o many b t left numbers r' numbers'
-      try_rest e r' numbers' h = record {
-        kept = λ q. h.kept q ∙ g.kept e;
-        right = λ us os w q time. let c = child us os w q in
-            answers_same (Chosen b t c.rest os) (Chosen b t us os) (chosen_more us os c)
-            (chosen_rest us os c (rw e at (attempted us os c time)))
-            r' numbers'
-            (h.right c.rest os c.others c.fewer (omega (arith, c.total, c.some)));
-      }
+  pub attempt_guessed : (s' : Settled) → Settles n from to copy true s' → (r : Option Found) → Guesses n s' left r →
+      Attempts n from to s left r
+  attempt_guessed s' h r g us os w e time =
+      let q = h.goes refl us os (work us os w) e in
+      let m = nothing_left q.us' (omega (arith, q.end)) in
+      answers_same
+      (λ a. (
+        (λ d. (done us os a).0 ((q.same a).0 (subst (λ x. Done s' x q.os' a) (sym m) d))),
+        (λ d. subst (λ x. Done s' x q.os' a) m ((q.same a).1 ((done us os a).1 d))),
+      ))
+      r
+      (g q.os' q.work.waits (omega (arith, q.work.few)) (omega (arith, q.less, w.few)))
 
 -- ---- find
 
--- what the checker computes of an array of zeros
-abbrev pub all_zero : List ℕ → Bool
-all_zero [] = true
-all_zero (x ∷ l) = eqb x 0 && all_zero l
+pub find_none : (n : ℕ → Node) (numbers : List ℤ) → (length numbers ≡ last_number → size_of (n 0) ≤ question_room → ⊥) →
+    Finds n numbers None numbers
+find_none n numbers h = record { kept = λ e. refl; right = λ z u l few f. absurd (h z (omega (arith, sized u n 0 l))) }
 
-zeros : (l : List ℕ) → all_zero l ≡ true → (p : ℕ) → get_or l p 0 ≡ 0
-zeros [] e p = refl
-zeros (x ∷ l) e zero = eqb-true x 0 (both (eqb x 0) (all_zero l) e).0
-zeros (x ∷ l) e (suc p) = zeros l (both (eqb x 0) (all_zero l) e).1 p
+module _ (n : ℕ → Node) (numbers : List ℤ) (s : Settled) (clear : Clear s) where
+  -- the whole tree, nothing settled and nothing waiting
+  whole : (u : Tree) → Laid u n 0 → nodes u ≤ question_room → Named u → Work n 0 (more u none) s.ors s.many []
+  unfolding bulk nodes Waits Laid Named
+  whole u l few f = record { laid = (l, tt); named = (f, tt); waits = clear.waits; near = omega arith; few = omega arith }
 
-none_marked : (b : List ℕ) → ((p : ℕ) → get_or b p 0 ≡ 0) → (a : Assignment) → Agrees b a
-none_marked b z a = record { says = λ p so e. absurd (by so (get_or b p 0) e (z p)) }
-  where
-    by : (so : Bool) (x : ℕ) → x ≡ side so → x ≡ 0 → ⊥
-    by true x e z = omega arith
-    by false x e z = omega arith
+  end : (u : Tree) (size : ℕ) → Laid u n 0 → size ≡ size_of (n 0) → 0 + nodes_all (more u none) ≡ size
+  unfolding nodes
+  end u size l e = omega (arith, sized u n 0 l)
 
-module _ (n : ℕ → Node) (size : ℕ) (numbers : List ℤ) where
-  pub find_none : (length numbers ≡ last_number → size ≤ question_room → ⊥) → Finds n size numbers Nothing numbers
-  find_none h = record { kept = λ e. refl; right = λ z u l e few f. absurd (h z few) }
+  -- an assignment that satisfies the tree is one in range that finishes the work
+  done_by : (u : Tree) → Named u → Satisfiable u → (a : Assignment) × Done s (more u none) [] a
+  unfolding holds owed
+  done_by u f sat =
+      let m = small u f sat in (
+        m.0,
+        record {
+          knows = record { flags = record { says = λ p so e. absurd (none-some so (sym (clear.flags p) ∙ e)) }; numbers = (clear.numbers.meets m.0).1 m.1 };
+          each = and_from _ _ m.2 refl;
+          owed = refl;
+        },
+      )
 
-  pub find_attempted : (o b t : List ℕ) (r : Verdict) (numbers' : List ℤ) → Attempts n 0 size o 0 b t (3 * question_room + 2) numbers r numbers' →
-      Starts t → all_zero b ≡ true → Finds n size numbers r numbers'
-  unfolding holds bulk nodes owed Waits Laid Named
-  find_attempted o b t r numbers' g st z = record { kept = g.kept; right = λ zn u l e few f. by u l e few f }
-    where
-      -- the whole tree, nothing settled and nothing waiting
-      by : (u : Tree) → Laid u n 0 → nodes u ≡ size → size ≤ question_room → Named u → Right u r numbers'
-      by u l e few f =
-          shown r
-          (g.right (more u none) [] (record {
-            laid = (l, tt);
-            named = (f, tt);
-            waits = refl;
-            near = omega arith;
-            few = omega
-                arith;
-          }) (omega arith) (omega arith))
-        where
-          -- an assignment that satisfies the tree is one in range that finishes the work
-          done : Satisfiable u → (a : Assignment) × Done b t (more u none) [] a
-          done s = let m = small u f s in (
-            m.0,
-            record {
-              knows = record { flags = none_marked b (zeros b z) m.0; numbers = (st.meets m.0).1 m.1 };
-              each = together m.2 refl;
-              owed = refl;
-            },
-          )
+  module _ (size : ℕ) (is : size ≡ size_of (n 0)) (s' : Settled) where
+    pub find_stopped : Settles n 0 size s false s' → Finds n numbers None numbers
+    find_stopped h = record {
+      kept = λ e. refl;
+      right = λ z u l few f sat.
+          let d = done_by u f sat in
+          h.stops refl (more u none) [] (whole u l few f) (end u size l is) d.0 d.1;
+    }
 
-          shown : (r : Verdict) → Answers (Done b t (more u none) []) r numbers' → Right u r numbers'
-          shown (Found bits) d = (
-            (both (holds u (given bits numbers')) true d.each).0,
-            (st.meets (given bits numbers')).0
-                d.knows.numbers,
-          )
-          shown Nothing h = λ sat. let d = done sat in h d.0 d.1
+    guessed : Settles n 0 size s true s' → (r : Option Found) → Guesses n s' question_room r → (u : Tree) → Laid u n 0 →
+        nodes u ≤ question_room → Named u → Answers (Done s (more u none) []) r
+    unfolding bulk
+    guessed h r g u l few f =
+        let q = h.goes refl (more u none) [] (whole u l few f) (end u size l is) in
+        let m = nothing_left q.us' (omega (arith, q.end, end u size l is)) in
+        answers_same
+        (λ a. (
+          (λ d. (q.same a).0 (subst (λ x. Done s' x q.os' a) (sym m) d)),
+          (λ d. subst (λ x. Done s' x q.os' a) m ((q.same a).1 d)),
+        ))
+        r
+        (g q.os' q.work.waits (omega (arith, q.work.few)) (omega (arith, q.work.few)))
+
+    pub find_failed : Settles n 0 size s true s' → Guesses n s' question_room None → Finds n numbers None numbers
+    find_failed h g = record {
+      kept = λ e. refl;
+      right = λ z u l few f sat. let d = done_by u f sat in guessed h None g u l few f d.0 d.1;
+    }
+
+    pub find_found : Settles n 0 size s true s' → (f : Found) → Guesses n s' question_room (Some f) → Finds n numbers (Some f.bits) f.numbers
+    unfolding holds
+    find_found h f g = record {
+      kept = λ e. absurd (none-some f.bits (sym e));
+      right = λ z u l few named.
+          let d = guessed h (Some f) g u l few named in
+          ((and_parts (holds u (given f.bits f.numbers)) true d.each).0, (clear.numbers.meets (given f.bits f.numbers)).0 d.knows.numbers);
+    }

@@ -1,6 +1,6 @@
--- What each way out of the search's functions shows.
-mod Forests
-mod Ends
-mod Showing
-mod Taking
-mod Guessing
+-- The laws that the proof of the code uses.
+pub mod Forests
+pub mod Ends
+pub mod Taking
+pub mod Showing
+pub mod Guessing

@@ -4,22 +4,22 @@ use Prim.Native.Nat.{ℕ, ◌+◌, ◌-◌, ◌≤◌, ◌<◌}
 use mathlib.Core.Path.{◌≡◌, refl, sym, subst, ap, ◌∙◌}
 use mathlib.Core.List.{List, [], ◌∷◌}
 use mathlib.Core.Logic.{◌↔◌}
-use mathlib.Core.Bool.{Bool, true, false, ◌&&◌}
+use mathlib.Core.Bool.{Bool, true, false, ◌&&◌, true≢false}
 use native.Mathlib.Omega.{arith}
-use lib.ListN.{length, set, length-set}
+use lib.ListN.{length, set}
 use lib.Seq.{get_or-set_same, get_or-set_other}
-use Rattle.condition.specs.Limits.{question_room}
-use Rattle.condition.specs.Meaning.{Assignment, all, any, Tree, join, Forest, more, holds, each}
+use Rattle.std.specs.Prelude.{Option, Some, None}
+use Rattle.std.specs.Bool.{then_some}
+use Rattle.std.proofs.lemmas.Bool.{and_parts, and_from}
+use Rattle.condition.specs.Meaning.{Assignment, End, all, any, Tree, leaf, join, Forest, more, holds, each}
 use Rattle.condition.specs.Satisfying.{Named, NamedAll}
 use Rattle.nodes.specs.declared.Node.{Node}
 use Rattle.nodes.specs.declared.Node.TheVariants as node
-use Rattle.nodes.specs.Laid.{nodes, nodes_all, Laid, LaidAll}
+use Rattle.nodes.specs.Laid.{flag_end, bound_end, nodes, nodes_all, Laid, LaidAll}
 use Rattle.nodes.proofs.Laws.{some_node, at_plain, at_flag, at_bound, at_join}
-use Rattle.settling.specs.Settled.{Knows, Marks, Bounds, Or, Stands, Waits, owed, bulk, State, Work, Done, Reaches, Takes, Settles}
-use Rattle.settling.proofs.Forests.{append, append_nodes, append_laid, append_named, append_each, both, together, first}
-
-pub differ : {A : Type 0} → true ≡ false → A
-differ e = absurd (let z : ◌≡◌ {A = ℕ} 0 1 = cc in omega arith)
+use Rattle.settling.specs.declared.settled.Settled.{Settled}
+use Rattle.settling.specs.Settled.{Knows, Learns, Holds, Or, Stands, Waits, owed, bulk, Work, Done, Reaches, Takes, Settles}
+use Rattle.settling.proofs.Forests.{append, append_nodes, append_laid, append_named, append_each, first}
 
 -- ---- the stack
 
@@ -48,6 +48,10 @@ waits_push u os n o many i h is s w =
     let e : many + 1 - 1 ≡ many = omega arith in
     (omega arith, is, rw (e, get_or-set_same o many i 0 h) s, rw e (waits_set os n o many many i (omega arith) w))
 
+-- what is known is what is settled of the booleans and of the numbers
+pub kept : {s s' : Settled} → s'.flags ≡ s.flags → s'.table ≡ s.table → (a : Assignment) → Knows s' a → Knows s a
+kept f t a k = record { flags = rw f at k.flags; numbers = rw t at k.numbers }
+
 -- ---- one node
 
 module _ {n : ℕ → Node} {i : ℕ} {us : Forest} {o : List ℕ} {many : ℕ} {os : List Tree} (w : Work n i us o many os) (u : Tree)
@@ -68,52 +72,54 @@ module _ {n : ℕ → Node} {i : ℕ} {us : Forest} {o : List ℕ} {many : ℕ} 
   unfolding holds
   each_first a = ap (λ x. each x all a) same
 
-  -- an end, worked into what is settled
-  end_taken : (b t b' t' : List ℕ) → nodes u ≡ 1 → ((a : Assignment) → Knows b' t' a ↔ (Knows b t a × (holds u a ≡ true))) →
-      Reaches n i us os b t (i + 1) o many b' t'
-  end_taken b t b' t' one iff = record {
+module _ {n : ℕ → Node} {i : ℕ} {us : Forest} {s : Settled} {os : List Tree} (w : Work n i us s.ors s.many os) (u : Tree)
+    (rest : Forest) (same : us ≡ more u rest) where
+  -- a node that is done with, and what was learned of it
+  end_taken : (s' : Settled) → s'.ors ≡ s.ors → s'.many ≡ s.many → nodes u ≡ 1 →
+      ((a : Assignment) → Knows s' a ↔ (Knows s a × (holds u a ≡ true))) → Reaches n i us os s (i + 1) s'
+  end_taken s' o m one iff = record {
     us' = rest;
     os' = os;
     work = record {
-      laid = subst (λ x. LaidAll rest n (i + x)) one laid_first.1;
-      named = named_first.1;
-      waits = w.waits;
-      near = omega (arith, w.near, size_first);
-      few = omega (arith, w.few, size_first);
+      laid = subst (λ x. LaidAll rest n (i + x)) one (laid_first w u rest same).1;
+      named = (named_first w u rest same).1;
+      waits = rw (o, m) w.waits;
+      near = omega (arith, w.near, size_first w u rest same);
+      few = omega (arith, w.few, size_first w u rest same);
     };
-    end = omega (arith, size_first);
-    less = omega (arith, size_first);
+    end = omega (arith, size_first w u rest same);
+    less = omega (arith, size_first w u rest same);
     same = λ a. (
-      (λ d. let k = (iff a).0 d.knows in record { knows = k.0; each = each_first a ∙ together k.1 d.each; owed = d.owed }),
-      (λ d. let e = both (holds u a) (each rest all a) (sym (each_first a) ∙ d.each) in record
+      (λ d. let k = (iff a).0 d.knows in record { knows = k.0; each = each_first w u rest same a ∙ and_from _ _ k.1 d.each; owed = d.owed }),
+      (λ d. let e = and_parts (holds u a) (each rest all a) (sym (each_first w u rest same a) ∙ d.each) in record
           { knows = (iff a).1 (d.knows, e.0); each = e.1; owed = d.owed }),
     );
   }
 
-  end_stops : (b t : List ℕ) → ((a : Assignment) → Knows b t a → holds u a ≡ true → ⊥) → (a : Assignment) → Done b t us os a → ⊥
-  end_stops b t no_one a d = no_one a d.knows (both (holds u a) (each rest all a) (sym (each_first a) ∙ d.each)).0
+  end_stops : ((a : Assignment) → Knows s a → holds u a ≡ true → ⊥) → (a : Assignment) → Done s us os a → ⊥
+  end_stops no_one a d = no_one a d.knows (and_parts (holds u a) (each rest all a) (sym (each_first w u rest same a) ∙ d.each)).0
 
   -- an `and`: its children first
-  and_taken : (b t : List ℕ) (ts : Forest) → u ≡ join all ts → LaidAll ts n (i + 1) → Reaches n i us os b t (i + 1) o many b t
+  and_taken : (ts : Forest) → u ≡ join all ts → LaidAll ts n (i + 1) → Reaches n i us os s (i + 1) s
   unfolding nodes holds Named
-  and_taken b t ts e l =
-      let s : nodes u ≡ nodes_all ts + 1 = ap nodes e in
-      let f : Named (join all ts) = subst Named e named_first.0 in
+  and_taken ts e l =
+      let z : nodes u ≡ nodes_all ts + 1 = ap nodes e in
+      let f : Named (join all ts) = subst Named e (named_first w u rest same).0 in
       let m = append_nodes rest ts in
-      let v : (a : Assignment) → each us all a ≡ each (append ts rest) all a = λ a. each_first a ∙ ap
+      let v : (a : Assignment) → each us all a ≡ each (append ts rest) all a = λ a. each_first w u rest same a ∙ ap
       (λ x. holds x a && each rest all a) e ∙ sym (append_each ts rest a) in
       record {
         us' = append ts rest;
         os' = os;
         work = record {
-          laid = append_laid rest ts n (i + 1) l (subst (LaidAll rest n) (omega arith) laid_first.1);
-          named = append_named rest ts f named_first.1;
+          laid = append_laid rest ts n (i + 1) l (subst (LaidAll rest n) (omega arith) (laid_first w u rest same).1);
+          named = append_named rest ts f (named_first w u rest same).1;
           waits = w.waits;
-          near = omega (arith, w.near, size_first);
-          few = omega (arith, w.few, size_first);
+          near = omega (arith, w.near, size_first w u rest same);
+          few = omega (arith, w.few, size_first w u rest same);
         };
-        end = omega (arith, size_first);
-        less = omega (arith, size_first);
+        end = omega (arith, size_first w u rest same);
+        less = omega (arith, size_first w u rest same);
         same = λ a. (
           (λ d. record { knows = d.knows; each = v a ∙ d.each; owed = d.owed }),
           (λ d. record { knows = d.knows; each = sym (v a) ∙ d.each; owed = d.owed }),
@@ -121,169 +127,129 @@ module _ {n : ℕ → Node} {i : ℕ} {us : Forest} {o : List ℕ} {many : ℕ} 
       }
 
   -- an `or` waits
-  or_taken : (b t : List ℕ) (ts : Forest) (s : ℕ) → u ≡ join any ts → nodes_all ts ≡ s → many < length o →
-      Reaches n i us os b t (i + 1 + s) (set o many i) (many + 1) b t
+  or_taken : (ts : Forest) (below : ℕ) → u ≡ join any ts → nodes_all ts ≡ below → s.many < length s.ors → (s' : Settled) →
+      Holds s i true s' → Reaches n i us os s (i + 1 + below) s'
   unfolding nodes owed bulk Named
-  or_taken b t ts s e z room =
+  or_taken ts below e z room s' h =
       let m : nodes u ≡ nodes_all ts + 1 = ap nodes e in
-      let f : Named (join any ts) = subst Named e named_first.0 in
+      let f : Named (join any ts) = subst Named e (named_first w u rest same).0 in
       record {
         us' = rest;
         os' = u ∷ os;
         work = record {
-          laid = subst (LaidAll rest n) (omega arith) laid_first.1;
-          named = named_first.1;
-          waits = waits_push u os n o many i room (record { ts = ts; same = e; named = f })
-              (record { laid = laid_first.0; near = omega (arith, w.near, size_first) }) w.waits;
-          near = omega (arith, w.near, size_first);
-          few = omega (arith, w.few, size_first);
+          laid = subst (LaidAll rest n) (omega arith) (laid_first w u rest same).1;
+          named = (named_first w u rest same).1;
+          waits = rw (h.ors refl, h.many refl) (waits_push u os n s.ors s.many i room (record { ts = ts; same = e; named = f })
+              (record { laid = (laid_first w u rest same).0; near = omega (arith, w.near, size_first w u rest same) }) w.waits);
+          near = omega (arith, w.near, size_first w u rest same);
+          few = omega (arith, w.few, size_first w u rest same);
         };
-        end = omega (arith, size_first);
-        less = omega (arith, size_first);
+        end = omega (arith, size_first w u rest same);
+        less = omega (arith, size_first w u rest same);
         same = λ a. (
-          (λ d. let q = both (holds u a) (owed os a) d.owed in record
-              { knows = d.knows; each = each_first a ∙ together q.0 d.each; owed = q.1 }),
-          (λ d. let q = both (holds u a) (each rest all a) (sym (each_first a) ∙ d.each) in record
-              { knows = d.knows; each = q.1; owed = together q.0 d.owed }),
+          (λ d. let q = and_parts (holds u a) (owed os a) d.owed in record
+              { knows = kept h.flags h.table a d.knows; each = each_first w u rest same a ∙ and_from _ _ q.0 d.each; owed = q.1 }),
+          (λ d. let q = and_parts (holds u a) (each rest all a) (sym (each_first w u rest same a) ∙ d.each) in record
+              { knows = kept (sym h.flags) (sym h.table) a d.knows; each = q.1; owed = and_from _ _ q.0 d.owed }),
         );
       }
 
 -- ---- what `take` shows
 
-module _ (n : ℕ → Node) (i : ℕ) (o : List ℕ) (many : ℕ) (b t : List ℕ) (st : State o b t) where
-  pub take_plain : (v : Bool) → n i ≡ node.Plain v → Takes n i o many b t v (i + 1) o many b t
+module _ (n : ℕ → Node) (i : ℕ) (s : Settled) where
+  pub take_plain : (b : Bool) (r : Option ℕ) → n i ≡ node.Plain b → r ≡ then_some b (i + 1) → Takes n i s r s
   unfolding nodes holds
-  take_plain v q = record {
-    on = omega arith;
-    state = st;
-    goes = λ ok us os w some. let f = first us some in let e = at_plain n i f.u v q (laid_first w f.u f.rest f.same).0 in
-        end_taken w f.u f.rest f.same b t b t (ap nodes e) (λ a. ((λ k. (k, ap (λ x. holds x a) e ∙ ok)), (λ k. k.0)));
-    stops = λ bad us os w some. let f = first us some in let e = at_plain n i f.u v q (laid_first w f.u f.rest f.same).0 in
-        end_stops w f.u f.rest f.same b t (λ a k y. differ (sym y ∙ ap (λ x. holds x a) e ∙ bad));
-  }
+  take_plain true r q e = rw e (
+    omega arith,
+    λ us os w some.
+        let f = first us some in
+        let t = at_plain n i f.u true q (laid_first w f.u f.rest f.same).0 in
+        end_taken w f.u f.rest f.same s refl refl (ap nodes t) (λ a. ((λ k. (k, ap (λ x. holds x a) t)), (λ k. k.0))),
+  )
+  take_plain false r q e = rw e (λ us os w some.
+      let f = first us some in
+      let t = at_plain n i f.u false q (laid_first w f.u f.rest f.same).0 in
+      end_stops w f.u f.rest f.same (λ a k y. true≢false (sym y ∙ ap (λ x. holds x a) t)))
 
-  pub take_flag : (so : Bool) (p : ℕ) (ok : Bool) (b' : List ℕ) → n i ≡ node.Flag so p → Marks b so p ok b' →
-      Takes n i o many b t ok (i + 1) o many b' t
+  -- a boolean or a bound
+  take_end : (e : End) (ok : Bool) (r : Option ℕ) (s' : Settled) → ((t : Tree) → Laid t n i → t ≡ leaf e) → Learns s e ok s' →
+      r ≡ then_some ok (i + 1) → Takes n i s r s'
   unfolding nodes holds Named
-  take_flag so p ok b' q m = record {
-    on = omega arith;
-    state = record { stack = st.stack; flags = m.size st.flags; closed = st.closed };
-    goes = λ good us os w some. let f = first us some in let e = at_flag n i f.u so p q (laid_first w f.u f.rest f.same).0 in
-        end_taken w f.u f.rest f.same b t b' t (ap nodes e) (λ a. (
-          (λ k. let r = (m.meets good st.flags a).0 k.flags in
-              (record { flags = r.0; numbers = k.numbers }, ap (λ x. holds x a) e ∙ r.1)),
-          (λ k. record {
-            flags = (m.meets good st.flags a).1 (k.0.flags, sym (ap (λ x. holds x a) e) ∙ k.1);
-            numbers = k.0.numbers;
-          }),
-        ));
-    stops = λ bad us os w some. let f = first us some in let e = at_flag n i f.u so p q (laid_first w f.u f.rest f.same).0 in
-        end_stops w f.u f.rest f.same b t
-        (λ a k y. m.none bad (subst Named e (named_first w f.u f.rest f.same).0) a k.flags (sym (ap (λ x. holds x a) e) ∙ y));
-  }
+  take_end e true r s' is l q = rw q (
+    omega arith,
+    λ us os w some.
+        let f = first us some in
+        let t = is f.u (laid_first w f.u f.rest f.same).0 in
+        end_taken w f.u f.rest f.same s' l.ors l.many (ap nodes t) (λ a. (
+          (λ k. let y = (l.meets refl a).0 k in (y.0, ap (λ x. holds x a) t ∙ y.1)),
+          (λ k. (l.meets refl a).1 (k.0, sym (ap (λ x. holds x a) t) ∙ k.1)),
+        )),
+  )
+  take_end e false r s' is l q = rw q (λ us os w some.
+      let f = first us some in
+      let t = is f.u (laid_first w f.u f.rest f.same).0 in
+      end_stops w f.u f.rest f.same
+      (λ a k y. l.none refl (subst Named t (named_first w f.u f.rest f.same).0) a k (sym (ap (λ x. holds x a) t) ∙ y)))
 
-  pub take_bound : (so : Bool) (x y v : ℕ) (ok : Bool) (t' : List ℕ) → n i ≡ node.Bound so x y v → Bounds t so x y v ok t' →
-      Takes n i o many b t ok (i + 1) o many b t'
-  unfolding nodes holds Named
-  take_bound so x y v ok t' q m = record {
-    on = omega arith;
-    state = record { stack = st.stack; flags = st.flags; closed = m.closed };
-    goes = λ good us os w some. let f = first us some in let e = at_bound n i f.u so x y v q
-        (laid_first w f.u f.rest f.same).0 in
-        end_taken w f.u f.rest f.same b t b t' (ap nodes e) (λ a. (
-          (λ k. let r = (m.meets good a).0 k.numbers in (record { flags = k.flags; numbers = r.0 }, ap (λ x. holds x a) e ∙ r.1)),
-          (λ k. record { flags = k.0.flags; numbers = (m.meets good a).1 (k.0.numbers, sym (ap (λ x. holds x a) e) ∙ k.1) }),
-        ));
-    stops = λ bad us os w some. let f = first us some in let e = at_bound n i f.u so x y v q
-        (laid_first w f.u f.rest f.same).0 in
-        end_stops w f.u f.rest f.same b t
-        (λ a k z. m.none bad (subst Named e (named_first w f.u f.rest f.same).0) a k.numbers (sym (ap (λ x. holds x a) e) ∙ z));
-  }
+  pub take_flag : (so : Bool) (p : ℕ) (ok : Bool) (r : Option ℕ) (s' : Settled) → n i ≡ node.Flag so p → Learns s (flag_end so p) ok s' →
+      r ≡ then_some ok (i + 1) → Takes n i s r s'
+  take_flag so p ok r s' q = take_end (flag_end so p) ok r s' (λ t. at_flag n i t so p q)
 
-  pub take_and : (v : Bool) (k s : ℕ) → n i ≡ node.Join v k s → v ≡ true → Takes n i o many b t true (i + 1) o many b t
-  take_and v k s q y = record {
-    on = omega arith;
-    state = st;
-    goes = λ ok us os w some. let f = first us some in let j = at_join n i f.u true k s (q ∙ ap (λ z. node.Join z k s) y)
-        (laid_first w f.u f.rest f.same).0 in
-        and_taken w f.u f.rest f.same b t j.ts j.tree j.laid;
-    stops = λ bad. differ bad;
-  }
+  pub take_bound : (so : Bool) (x y v : ℕ) (ok : Bool) (r : Option ℕ) (s' : Settled) → n i ≡ node.Bound so x y v →
+      Learns s (bound_end so x y v) ok s' → r ≡ then_some ok (i + 1) → Takes n i s r s'
+  take_bound so x y v ok r s' q = take_end (bound_end so x y v) ok r s' (λ t. at_bound n i t so x y v q)
 
-  pub take_or : (v : Bool) (k s : ℕ) (o' : List ℕ) → n i ≡ node.Join v k s → v ≡ false → many < question_room → o' ≡ set o many i →
-      Takes n i o many b t true (i + 1 + s) o' (many + 1) b t
-  take_or v k s o' q y room put = record {
-    on = omega arith;
-    state = record { stack = ap length put ∙ simp length-set st.stack; flags = st.flags; closed = st.closed };
-    goes = λ ok us os w some. let f = first us some in let j = at_join n i f.u false k s (q ∙ ap (λ z. node.Join z k s) y)
-        (laid_first w f.u f.rest f.same).0 in
-        subst (λ x. Reaches n i us os b t (i + 1 + s) x (many + 1) b t) (sym put)
-        (or_taken w f.u f.rest f.same b t j.ts s j.tree j.below (omega (arith, st.stack)));
-    stops = λ bad. differ bad;
-  }
+  pub take_and : (k below : ℕ) → n i ≡ node.Join true k below → Takes n i s (Some (i + 1)) s
+  take_and k below q = (
+    omega arith,
+    λ us os w some.
+        let f = first us some in
+        let j = at_join n i f.u true k below q (laid_first w f.u f.rest f.same).0 in
+        and_taken w f.u f.rest f.same j.ts j.tree j.laid,
+  )
 
-  pub take_full : question_room ≤ many → Takes n i o many b t false (i + 1) o many b t
-  take_full full = record {
-    on = omega arith;
-    state = st;
-    goes = λ bad. differ (sym bad);
-    stops = λ ok us os w some a d. omega (arith, many_few os n o many w.waits, w.few);
-  }
+  pub take_or : (k below : ℕ) (ok : Bool) (r : Option ℕ) (s' : Settled) → n i ≡ node.Join false k below → Holds s i ok s' → r ≡ then_some ok (i + 1 + below) → Takes n i s r s'
+  take_or k below true r s' q h e = rw e (
+    omega arith,
+    λ us os w some.
+        let f = first us some in
+        let j = at_join n i f.u false k below q (laid_first w f.u f.rest f.same).0 in
+        or_taken w f.u f.rest f.same j.ts below j.tree j.below (h.room refl) s' h,
+  )
+  take_or k below false r s' q h e = rw e (λ us os w some a d. omega (arith, h.full refl, many_few os n s.ors s.many w.waits, w.few))
 
 -- ---- a run of nodes
 
 -- so far
-pub record Progress (n : ℕ → Node) (from to : ℕ) (o₀ : List ℕ) (many₀ : ℕ) (b₀ t₀ : List ℕ) (i : ℕ) (o : List ℕ) (many : ℕ)
-    (b t : List ℕ) : Type 0 where
-  pub state : State o b t
-  pub so_far : (us : Forest) (os : List Tree) → Work n from us o₀ many₀ os → from + nodes_all us ≡ to →
-      Reaches n from us os b₀ t₀ i o many b t
+pub record Progress (n : ℕ → Node) (from to : ℕ) (s : Settled) (i : ℕ) (s' : Settled) : Type 0 where
+  pub so_far : (us : Forest) (os : List Tree) → Work n from us s.ors s.many os → from + nodes_all us ≡ to → Reaches n from us os s i s'
 
-module _ (n : ℕ → Node) (from to : ℕ) (o : List ℕ) (many : ℕ) (b t : List ℕ) where
-  pub progress_none : State o b t → Progress n from to o many b t from o many b t
-  progress_none st = record {
-    state = st;
-    so_far = λ us os w e. record { us' = us; os' = os; work = w; end = refl; less = omega arith; same = λ a. ((λ d. d), (λ d. d)) };
-  }
-
-  module _ (i : ℕ) (o₁ : List ℕ) (many₁ : ℕ) (b₁ t₁ : List ℕ) (p : Progress n from to o many b t i o₁ many₁ b₁ t₁) where
+module _ (n : ℕ → Node) (from to : ℕ) (s : Settled) where
+  module _ (i : ℕ) (s₁ : Settled) (p : Progress n from to s i s₁) where
     -- a node is left to take
-    left : i < to → (us : Forest) (os : List Tree) (w : Work n from us o many os) (e : from + nodes_all us ≡ to) →
+    left : i < to → (us : Forest) (os : List Tree) (w : Work n from us s.ors s.many os) (e : from + nodes_all us ≡ to) →
         1 ≤ nodes_all (p.so_far us os w e).us'
     left h us os w e = omega (arith, (p.so_far us os w e).end)
 
-    module _ (h : i < to) (ok : Bool) (i' : ℕ) (o' : List ℕ) (many' : ℕ) (b' t' : List ℕ)
-        (k : Takes n i o₁ many₁ b₁ t₁ ok i' o' many' b' t') where
-      pub progress_more : ok ≡ true → Progress n from to o many b t i' o' many' b' t'
-      progress_more y = record {
-        state = k.state;
-        so_far = λ us os w e.
-            let r = p.so_far us os w e in
-            let r' = k.goes y r.us' r.os' r.work (left h us os w e) in
-            record {
-              us' = r'.us';
-              os' = r'.os';
-              work = r'.work;
-              end = r'.end ∙ r.end;
-              less = omega (arith, r.less, r'.less);
-              same = λ a. ((λ d. (r.same a).0 ((r'.same a).0 d)), (λ d. (r'.same a).1 ((r.same a).1 d)));
-            };
-      }
-
-      pub settle_stops : ok ≡ false → (many'' : ℕ) → Settles n from to o many b t false o' many'' b' t'
-      settle_stops y many'' = record {
-        state = k.state;
-        goes = λ bad. differ (sym bad);
-        stops = λ e us os w q a d.
-            let r = p.so_far us os w q in
-            k.stops y r.us' r.os' r.work (left h us os w q) a ((r.same a).1 d);
-      }
-
-    pub settle_ends : to ≤ i → Settles n from to o many b t true o₁ many₁ b₁ t₁
-    settle_ends h = record {
-      state = p.state;
-      goes = λ ok us os w e.
+    pub progress_more : i < to → (i' : ℕ) (s' : Settled) → Takes n i s₁ (Some i') s' → Progress n from to s i' s'
+    progress_more h i' s' k = record {
+      so_far = λ us os w e.
           let r = p.so_far us os w e in
-          subst (λ x. Reaches n from us os b t x o₁ many₁ b₁ t₁) (omega (arith, r.end)) r;
-      stops = λ bad. differ bad;
+          let r' = k.1 r.us' r.os' r.work (left h us os w e) in
+          record {
+            us' = r'.us';
+            os' = r'.os';
+            work = r'.work;
+            end = r'.end ∙ r.end;
+            less = omega (arith, r.less, r'.less);
+            same = λ a. ((λ d. (r.same a).0 ((r'.same a).0 d)), (λ d. (r'.same a).1 ((r.same a).1 d)));
+          };
+    }
+
+    pub settle_stops : i < to → (s' : Settled) → Takes n i s₁ None s' → Settles n from to s false s'
+    settle_stops h s' k = record {
+      goes = λ bad. absurd (true≢false (sym bad));
+      stops = λ e us os w q a d.
+          let r = p.so_far us os w q in
+          k r.us' r.os' r.work (left h us os w q) a ((r.same a).1 d);
     }

@@ -1,41 +1,49 @@
 -- What is settled, what waits, and what the search promises: yes exactly if some assignment satisfies the tree, and then one that does.
 -- Nothing here says in which order it guesses.
-use Rattle.std.specs.Prelude.{ℕ, suc, ◌+◌, ◌-◌, ◌*◌, ◌/◌, ◌%◌, ◌^◌, ◌≤◌, ◌<◌, ◌≡◌, List, [], ◌∷◌, ◌↔◌, Bool, true, false, ◌&&◌, eqb, ℤ, pos, length, get_or}
-use Rattle.condition.specs.Limits.{last_boolean, booleans, last_number, question_room}
-use Rattle.condition.specs.Meaning.{Assignment, value, met, all, any, Tree, join, Forest, none, count, holds, each, EndWithin, given}
+use Rattle.std.specs.Prelude.{ℕ, suc, ◌+◌, ◌-◌, ◌/◌, ◌%◌, ◌^◌, ◌≤◌, ◌<◌, ◌≡◌, List, [], ◌∷◌, ◌↔◌, Bool, true, false, ◌&&◌, eqb, Option, Some, None, ℤ, pos, length, get_or, set}
+use Rattle.std.specs.Option.{unwrap_or}
+use Rattle.condition.specs.Limits.{last_boolean, last_number, question_room}
+use Rattle.condition.specs.Meaning.{Assignment, value, End, met, all, any, Tree, join, Forest, none, holds, each, EndWithin, given}
 use Rattle.condition.specs.Satisfying.{Satisfiable, InRange, Named, NamedAll}
-use Rattle.differences.specs.Table.{Meets, Closed, tightest}
+use Rattle.differences.specs.Table.{Meets, Starts, tightest}
 use Rattle.nodes.specs.declared.Node.{Node}
-use Rattle.nodes.specs.Laid.{flag_end, bound_end, nodes, nodes_all, Laid, LaidAll}
-use Rattle.settling.specs.declared.Verdict.{Verdict}
-use Rattle.settling.specs.declared.Verdict.TheVariants.{Found, Nothing}
+use Rattle.nodes.specs.Laid.{nodes, nodes_all, Laid, LaidAll}
+use Rattle.settling.specs.declared.settled.Settled.{Settled}
+use Rattle.settling.specs.declared.settled.Found.{Found}
 
 -- ---- what is settled
 
--- of a boolean: 1 that it is true, 2 that it is false, else nothing
-abbrev pub side : Bool → ℕ
-side true = 1
-side false = 2
-
-pub record Agrees (b : List ℕ) (a : Assignment) : Type 0 where
-  pub says : (p : ℕ) (so : Bool) → get_or b p 0 ≡ side so → a.flag p ≡ so
+pub record Agrees (b : List (Option Bool)) (a : Assignment) : Type 0 where
+  pub says : (p : ℕ) (so : Bool) → get_or b p None ≡ Some so → a.flag p ≡ so
 
 -- an assignment agrees with all that is settled
-pub record Knows (b t : List ℕ) (a : Assignment) : Type 0 where
-  pub flags : Agrees b a
-  pub numbers : Meets t a
+pub record Knows (s : Settled) (a : Assignment) : Type 0 where
+  pub flags : Agrees s.flags a
+  pub numbers : Meets s.table a
 
-pub record Marks (b : List ℕ) (so : Bool) (p : ℕ) (ok : Bool) (b' : List ℕ) : Type 0 where
-  pub size : length b ≡ booleans → length b' ≡ booleans
-  pub meets : ok ≡ true → length b ≡ booleans → (a : Assignment) → Agrees b' a ↔ (Agrees b a × (met (flag_end so p) a ≡ true))
-  pub none : ok ≡ false → EndWithin (flag_end so p) → (a : Assignment) → Agrees b a → met (flag_end so p) a ≡ true → ⊥
+-- nothing is settled but the numbers' range, and nothing waits
+pub record Clear (s : Settled) : Type 0 where
+  pub waits : s.many ≡ 0
+  pub flags : (p : ℕ) → get_or s.flags p None ≡ None
+  pub numbers : Starts s.table
 
-pub record Bounds (t : List ℕ) (so : Bool) (x y w : ℕ) (ok : Bool) (t' : List ℕ) : Type 0 where
-  pub closed : Closed t'
-  pub meets : ok ≡ true → (a : Assignment) → Meets t' a ↔ (Meets t a × (met (bound_end so x y w) a ≡ true))
-  pub none : ok ≡ false → EndWithin (bound_end so x y w) → (a : Assignment) → Meets t a → met (bound_end so x y w) a ≡ true → ⊥
+-- s' is s with the end e settled; ok is false if that can't be
+pub record Learns (s : Settled) (e : End) (ok : Bool) (s' : Settled) : Type 0 where
+  pub ors : s'.ors ≡ s.ors
+  pub many : s'.many ≡ s.many
+  pub meets : ok ≡ true → (a : Assignment) → Knows s' a ↔ (Knows s a × (met e a ≡ true))
+  pub none : ok ≡ false → EndWithin e → (a : Assignment) → Knows s a → met e a ≡ true → ⊥
 
 -- ---- what waits
+
+-- s' is s with the `or` at node i on top; ok is false if the stack is full
+pub record Holds (s : Settled) (i : ℕ) (ok : Bool) (s' : Settled) : Type 0 where
+  pub flags : s'.flags ≡ s.flags
+  pub table : s'.table ≡ s.table
+  pub room : ok ≡ true → s.many < length s.ors
+  pub ors : ok ≡ true → s'.ors ≡ set s.ors s.many i
+  pub many : ok ≡ true → s'.many ≡ s.many + 1
+  pub full : ok ≡ false → question_room ≤ s.many
 
 -- an `or` within the limits
 pub record Or (u : Tree) : Type 0 where
@@ -61,12 +69,6 @@ unfoldable pub bulk : List Tree → ℕ
 bulk [] = 0
 bulk (u ∷ us) = nodes u + bulk us
 
--- the stack and what is settled, as the search holds them
-pub record State (o b t : List ℕ) : Type 0 where
-  pub stack : length o ≡ question_room
-  pub flags : length b ≡ booleans
-  pub closed : Closed t
-
 -- ---- what is still to be made true: the trees us, laid from node i on, and the `or`s os that wait
 
 pub record Work (n : ℕ → Node) (i : ℕ) (us : Forest) (o : List ℕ) (many : ℕ) (os : List Tree) : Type 0 where
@@ -77,81 +79,71 @@ pub record Work (n : ℕ → Node) (i : ℕ) (us : Forest) (o : List ℕ) (many 
   pub few : bulk os + nodes_all us ≤ question_room
 
 -- a agrees with what is settled and makes all that is left true
-pub record Done (b t : List ℕ) (us : Forest) (os : List Tree) (a : Assignment) : Type 0 where
-  pub knows : Knows b t a
+pub record Done (s : Settled) (us : Forest) (os : List Tree) (a : Assignment) : Type 0 where
+  pub knows : Knows s a
   pub each : each us all a ≡ true
   pub owed : owed os a ≡ true
 
 -- from one state of the work to a later one, which the same assignments finish
-pub record Reaches (n : ℕ → Node) (i : ℕ) (us : Forest) (os : List Tree) (b t : List ℕ) (i' : ℕ) (o' : List ℕ) (many' : ℕ)
-    (b' t' : List ℕ) : Type 0 where
+pub record Reaches (n : ℕ → Node) (i : ℕ) (us : Forest) (os : List Tree) (s : Settled) (i' : ℕ) (s' : Settled) : Type 0 where
   pub us' : Forest
   pub os' : List Tree
-  pub work : Work n i' us' o' many' os'
+  pub work : Work n i' us' s'.ors s'.many os'
   pub end : i' + nodes_all us' ≡ i + nodes_all us
   pub less : bulk os' + nodes_all us' ≤ bulk os + nodes_all us
-  pub same : (a : Assignment) → Done b' t' us' os' a ↔ Done b t us os a
+  pub same : (a : Assignment) → Done s' us' os' a ↔ Done s us os a
 
-pub record Takes (n : ℕ → Node) (i : ℕ) (o : List ℕ) (many : ℕ) (b t : List ℕ) (ok : Bool) (i' : ℕ) (o' : List ℕ) (many' : ℕ)
-    (b' t' : List ℕ) : Type 0 where
-  pub on : i < i'
-  pub state : State o' b' t'
-  pub goes : ok ≡ true → (us : Forest) (os : List Tree) → Work n i us o many os → 1 ≤ nodes_all us → Reaches n i us os b t i' o' many' b' t'
-  pub stops : ok ≡ false → (us : Forest) (os : List Tree) → Work n i us o many os → 1 ≤ nodes_all us → (a : Assignment) →
-      Done b t us os a → ⊥
+-- the node at i is taken, on to i' or, if there is none, to a contradiction
+abbrev pub Takes : (n : ℕ → Node) (i : ℕ) (s : Settled) (r : Option ℕ) (s' : Settled) → Type 0
+Takes n i s (Some i') s' =
+    (i < i') × ((us : Forest) (os : List Tree) → Work n i us s.ors s.many os → 1 ≤ nodes_all us → Reaches n i us os s i' s')
+Takes n i s None s' =
+    (us : Forest) (os : List Tree) → Work n i us s.ors s.many os → 1 ≤ nodes_all us → (a : Assignment) → Done s us os a → ⊥
 
-pub record Settles (n : ℕ → Node) (from to : ℕ) (o : List ℕ) (many : ℕ) (b t : List ℕ) (ok : Bool) (o' : List ℕ) (many' : ℕ)
-    (b' t' : List ℕ) : Type 0 where
-  pub state : State o' b' t'
-  pub goes : ok ≡ true → (us : Forest) (os : List Tree) → Work n from us o many os → from + nodes_all us ≡ to →
-      Reaches n from us os b t to o' many' b' t'
-  pub stops : ok ≡ false → (us : Forest) (os : List Tree) → Work n from us o many os → from + nodes_all us ≡ to →
-      (a : Assignment) → Done b t us os a → ⊥
+pub record Settles (n : ℕ → Node) (from to : ℕ) (s : Settled) (ok : Bool) (s' : Settled) : Type 0 where
+  pub goes : ok ≡ true → (us : Forest) (os : List Tree) → Work n from us s.ors s.many os → from + nodes_all us ≡ to →
+      Reaches n from us os s to s'
+  pub stops : ok ≡ false → (us : Forest) (os : List Tree) → Work n from us s.ors s.many os → from + nodes_all us ≡ to →
+      (a : Assignment) → Done s us os a → ⊥
 
 -- ---- what is shown
 
-pub record Bits (b : List ℕ) (r : ℕ) : Type 0 where
-  pub each : (p : ℕ) → p ≤ last_boolean → eqb (r / 2 ^ p % 2) 1 ≡ eqb (get_or b p 0) 1
+-- a boolean that is not settled is shown as false
+pub record Bits (b : List (Option Bool)) (r : ℕ) : Type 0 where
+  pub each : (p : ℕ) → p ≤ last_boolean → eqb (r / 2 ^ p % 2) 1 ≡ unwrap_or (get_or b p None) false
 
 pub record Shows (t : List ℕ) (numbers : List ℤ) : Type 0 where
   pub each : (x : ℕ) → x < last_number → (f : ℕ → Bool) → get_or numbers x (pos 0) ≡ value (tightest f t) (suc x)
 
 -- ---- guesses
 
--- found: the assignment written has P; nothing: none has
-abbrev pub Answers : (Assignment → Type 0) → Verdict → List ℤ → Type 0
-Answers P (Found bits) numbers = P (given bits numbers)
-Answers P Nothing numbers = (a : Assignment) → P a → ⊥
+-- found: the assignment has P; nothing: none has
+abbrev pub Answers : (Assignment → Type 0) → Option Found → Type 0
+Answers P (Some f) = P (given f.bits f.numbers)
+Answers P None = (a : Assignment) → P a → ⊥
 
 -- a agrees with what is settled and makes one of the trees us true, and all the `or`s os
-pub record Chosen (b t : List ℕ) (us : Forest) (os : List Tree) (a : Assignment) : Type 0 where
-  pub knows : Knows b t a
+pub record Chosen (s : Settled) (us : Forest) (os : List Tree) (a : Assignment) : Type 0 where
+  pub knows : Knows s a
   pub one : each us any a ≡ true
   pub owed : owed os a ≡ true
 
-pub record Guesses (n : ℕ → Node) (o : List ℕ) (many : ℕ) (b t : List ℕ) (left : ℕ) (numbers : List ℤ) (r : Verdict)
-    (numbers' : List ℤ) : Type 0 where
-  pub kept : r ≡ Nothing → numbers' ≡ numbers
-  pub right : (os : List Tree) → Waits os n o many → bulk os ≤ question_room → 3 * bulk os < left → Answers (Done b t none os) r numbers'
+abbrev pub Guesses : (n : ℕ → Node) (s : Settled) (left : ℕ) (r : Option Found) → Type 0
+Guesses n s left r =
+    (os : List Tree) → Waits os n s.ors s.many → bulk os ≤ question_room → bulk os ≤ left → Answers (Done s none os) r
 
-pub record Attempts (n : ℕ → Node) (from to : ℕ) (o : List ℕ) (many : ℕ) (b t : List ℕ) (left : ℕ) (numbers : List ℤ)
-    (r : Verdict) (numbers' : List ℤ) : Type 0 where
-  pub kept : r ≡ Nothing → numbers' ≡ numbers
-  pub right : (us : Forest) (os : List Tree) → Work n from us o many os → from + nodes_all us ≡ to →
-      3 * (bulk os + nodes_all us) + 1 < left → Answers (Done b t us os) r numbers'
-
-pub record Tries (n : ℕ → Node) (i k : ℕ) (o : List ℕ) (many : ℕ) (b t : List ℕ) (left : ℕ) (numbers : List ℤ) (r : Verdict)
-    (numbers' : List ℤ) : Type 0 where
-  pub kept : r ≡ Nothing → numbers' ≡ numbers
-  pub right : (us : Forest) (os : List Tree) → Work n i us o many os → count us ≡ k → 3 * (bulk os + nodes_all us) + 2 < left →
-      Answers (Chosen b t us os) r numbers'
+-- the `or` on top is out of the work, since one of its children is in it
+abbrev pub Attempts : (n : ℕ → Node) (from to : ℕ) (s : Settled) (left : ℕ) (r : Option Found) → Type 0
+Attempts n from to s left r =
+    (us : Forest) (os : List Tree) → Work n from us s.ors (s.many - 1) os → from + nodes_all us ≡ to → bulk os + nodes_all us ≤ left →
+    Answers (Done s us os) r
 
 -- ---- the search: over all whole numbers
 
-abbrev pub Right : Tree → Verdict → List ℤ → Type 0
-Right u (Found bits) numbers = (holds u (given bits numbers) ≡ true) × InRange (given bits numbers)
-Right u Nothing numbers = Satisfiable u → ⊥
+abbrev pub Right : Tree → Option ℕ → List ℤ → Type 0
+Right u (Some bits) numbers = (holds u (given bits numbers) ≡ true) × InRange (given bits numbers)
+Right u None numbers = Satisfiable u → ⊥
 
-pub record Finds (n : ℕ → Node) (size : ℕ) (numbers : List ℤ) (r : Verdict) (numbers' : List ℤ) : Type 0 where
-  pub kept : r ≡ Nothing → numbers' ≡ numbers
-  pub right : length numbers ≡ last_number → (u : Tree) → Laid u n 0 → nodes u ≡ size → size ≤ question_room → Named u → Right u r numbers'
+pub record Finds (n : ℕ → Node) (numbers : List ℤ) (r : Option ℕ) (numbers' : List ℤ) : Type 0 where
+  pub kept : r ≡ None → numbers' ≡ numbers
+  pub right : length numbers ≡ last_number → (u : Tree) → Laid u n 0 → nodes u ≤ question_room → Named u → Right u r numbers'

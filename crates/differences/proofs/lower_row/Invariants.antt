@@ -1,11 +1,8 @@
--- What the loop of `differences::lower_row` keeps, and what falls; Answers.antt says the argument.
-use Prim.Native.Nat.{◌+◌, ◌-◌, ◌*◌, ◌≤◌}
+-- What the loop of `differences::lower_row` keeps; Answers.antt says the argument.
+use Prim.Native.Nat.{◌+◌, ◌*◌, ◌≤◌}
 use Rattle.differences.specs.Table.{numbers}
 use Rattle.differences.specs.Rows.{Part, lowered}
 use Rattle.differences.proofs.lower_row.Given as goal
 
 abbrev pub invariant-loop-j : goal.invariant-loop-j
 invariant-loop-j l = (l.j ≤ numbers) × Part (l.i * numbers) (l.i * numbers + l.j) (lowered l.initial.t l.y l.left) l.initial.t l.t
-
-abbrev pub decreases-loop-j : goal.decreases-loop-j
-decreases-loop-j l = numbers - l.j

@@ -1,14 +1,11 @@
 -- `differences::number` meets its contract: neither number leaves its type, so the machine's are the whole numbers.
-use mir.Syntax.{w32}
-use mir.Facts.{to_z_pos, to_z-of_z}
-use Rattle.differences.proofs.Shown.{read_fits, shown, shown_fits}
+use native.Mathlib.Nat.{add-zero}
+use native.Mathlib.Omega.{arith}
+use Rattle.std.proofs.lemmas.Int.{ints}
+use Rattle.differences.proofs.Shown.{shown}
 use Rattle.differences.proofs.number.Goals as goal
 
-pub overflow_cast-result : goal.overflow_cast-result
-overflow_cast-result c = read_fits _ c.requires
-
-pub overflow_sub-result : goal.overflow_sub-result
-overflow_sub-result c = rw (to_z_pos w32 (read_fits _ c.requires).sfits) (shown_fits _ c.requires)
-
 pub returns : goal.returns
-returns c = rw (to_z_pos w32 (read_fits _ c.requires).sfits, to_z-of_z (shown_fits _ c.requires)) (shown _ c.requires)
+returns c =
+    let high = c.requires.0.high c.args.i c.requires.1 in
+    shown _ c.requires _ (omega (arith, ints, rw add-zero at high))

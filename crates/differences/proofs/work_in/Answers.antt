@@ -1,13 +1,9 @@
 -- `differences::work_in` meets its contract. The loop's invariant: the rows before i are lowered, all others are as they were.
 use native.Mathlib.Omega.{arith}
-use Rattle.differences.proofs.Lowered.{between_upper, refuses, nothing_new, adds}
-use Rattle.differences.proofs.Parts.{part_none}
-use Rattle.differences.proofs.Rows.{lowers, row_upper, row_lowered, row_left, rows_added}
+use Rattle.differences.proofs.Lowered.{refuses, nothing_new, adds}
+use Rattle.differences.proofs.Rows.{lowers, row_lowered, row_left, rows_added}
 use Rattle.differences.proofs.work_in.Goals as goal
 use Rattle.differences.proofs.work_in.Goals.{then-left-t, else-left-t}
-
-pub overflow_add-t : goal.overflow_add-t
-overflow_add-t c = omega (arith, between_upper c.requires.0)
 
 pub returns-then-t-y : goal.returns-then-t-y
 returns-then-t-y c =
@@ -16,18 +12,6 @@ returns-then-t-y c =
 pub returns-then-t-x : goal.returns-then-t-x
 returns-then-t-x c =
     adds c.requires.0 c.args.c (omega arith) (nothing_new c.requires.0 c.args.c (omega arith))
-
-pub loop-i-init : goal.loop-i-init
-loop-i-init c =
-    record { most = omega arith; ready = c.requires.0; bound = c.requires.1; ok = omega arith; part = part_none 0 _ _ }
-
-pub overflow_add-left-in-loop-i : goal.overflow_add-left-in-loop-i
-overflow_add-left-in-loop-i c =
-    omega (arith, row_upper c.loop-i.invariant (omega arith))
-
-pub overflow_add-t-in-loop-i : goal.overflow_add-t-in-loop-i
-overflow_add-t-in-loop-i c =
-    omega (arith, row_upper c.loop-i.invariant (omega arith))
 
 pub lower_row-requires : goal.lower_row-requires
 lower_row-requires c =
