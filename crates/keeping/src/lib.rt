@@ -3,147 +3,137 @@
 // assignments are kept, what they tell is right: nothing needs to be known of them.
 #![tactic(auto)]
 
-ghost use Rattle.std.specs.Prelude.{◌≡◌, suc, ◌*◌, ◌%◌, ◌≤◌, ◌<◌, length};
+ghost use Rattle.std.specs.Prelude.{◌≡◌, ◌*◌, ◌≤◌, ◌<◌, length, false, replicate};
 ghost use Rattle.nodes.specs.Memory.{node_at};
-ghost use Rattle.keeping.specs.Kept.{kept, questions, Notes, Learns, Room, Replies};
+ghost use Rattle.keeping.specs.Kept.{questions, Notes, Learns, Replies};
 
 use condition::{ASSIGNED, QUESTION_ROOM, Whole};
-use settling::Verdict;
+use judging::Assignment;
+use nodes::Node;
+use std::marker::Model;
 
 // So many assignments are kept at most; one more takes the last one's place.
-pub const KEPT: usize = 32;
-
-// Their numbers.
-pub const KEPT_NUMBERS: usize = ASSIGNED * KEPT;
+const KEPT: usize = 32;
 
 // Two questions about each end, and a tree has no more ends than nodes.
-pub const QUESTIONS: usize = 2 * QUESTION_ROOM;
+const QUESTIONS: usize = 2 * QUESTION_ROOM;
 
-// The answer to a question, and what it leaves for the next: how many assignments are kept, and the first of them that the tree has not
-// been walked under.
+// An assignment that a search found: its boolean bits and its numbers.
 #[derive(Clone, Copy)]
-pub struct Reply {
-    pub yes: bool,
-    pub many: usize,
-    pub tried: usize,
+struct Found {
+    flags: u32,
+    numbers: [Whole; ASSIGNED],
 }
 
-// The mark of an end that answers question q no.
-fn mark(q: usize) -> u8
-    ensures { result ≡ suc (q % 2) }
-{
-    if q % 2 == 1 { 2 } else { 1 }
-}
-
-// Makes known (1) each question that the marks of the first `ends` ends answer no.
-fn note(marks: &[u8], ends: usize, known: &mut [u8])
-    requires { (ends ≤ length marks.now) × (2 * ends ≤ length known.old) }
-    ensures { Notes marks.now ends known.old known.new }
-{
-    let mut q = 0;
-    while q < 2 * ends {
-        if marks[q / 2] == mark(q) {
-            known[q] = 1;
-        }
-        q += 1;
-    }
-}
-
-// What one assignment tells of the tree in the first n nodes.
-fn learn(ns: &[u64], n: usize, flags: u32, numbers: &[Whole], known: &mut [u8])
-    requires { length known.old ≡ questions }
-    ensures { Learns (node_at ns.now) n known.old known.new }
-{
-    let mut marks = [0u8; QUESTION_ROOM];
-    let ends = turning::turn(ns, n, flags, numbers, &mut marks);
-    note(&marks, ends, known);
-}
-
-// Walks the tree under one kept assignment after another, from `tried` on, until question q is known: the next to try.
-fn recall(
-    ns: &[u64],
-    n: usize,
-    q: usize,
-    bits: &[u32],
-    numbers: &[Whole],
-    known: &mut [u8],
+// The first `many` of `found` are kept, and the tree has been walked under the first `tried` of these. `known` says which questions about
+// it are known to be answered no, which is all that contracts see.
+#[derive(Drop)]
+pub struct Kept {
+    found: [Found; KEPT],
     many: usize,
     tried: usize,
-) -> usize
-    requires { (q < questions) × Room bits.now numbers.now known.old many }
-    ensures { Learns (node_at ns.now) n known.old known.new }
+    known: [bool; QUESTIONS],
+}
+
+impl Model for Kept {
+    ghost use Rattle.std.specs.Prelude.{◌≤◌, ◌<◌, List, Bool};
+    ghost use Rattle.keeping.specs.Kept.{kept};
+
+    ghost Value = { List Bool };
+
+    ghost view = { λ k. k.known };
+
+    ghost invariant = { λ k. (k.tried ≤ k.many) × (k.many < kept) };
+}
+
+// Makes known each question that a mark answers no: question one about an end that is false, question two about one that is true.
+fn note(marks: &[Option<bool>], known: &mut [bool; QUESTIONS])
+    requires { 2 * length marks.now ≤ questions }
+    ensures { Notes marks.now known.old known.new }
 {
-    let mut k = tried;
-    while k < many {
-        if known[q] != 0 {
+    for (end, mark) in marks.iter().enumerate() {
+        if let Some(met) = mark {
+            known[2 * end + usize::from(*met)] = true;
+        }
+    }
+}
+
+// What one assignment tells of the tree that stands from node 0 on.
+fn learn(ns: &[Node], found: &Found, known: &mut [bool; QUESTIONS])
+    ensures { Learns (node_at ns.now) known.old known.new }
+{
+    let mut marks = [None; QUESTION_ROOM];
+    let assignment = Assignment {
+        flags: found.flags,
+        numbers: &found.numbers,
+    };
+    let ends = turning::turn(ns, assignment, &mut marks);
+    note(&marks[..ends], known);
+}
+
+// Walks the tree under one assignment after another, until question q is known: how many these were.
+fn recall(ns: &[Node], q: usize, found: &[Found], known: &mut [bool; QUESTIONS]) -> usize
+    requires { q < questions }
+    ensures many { result ≤ length found.now }
+    ensures right { Learns (node_at ns.now) known.old known.new }
+{
+    for (k, one) in found.iter().enumerate() {
+        if known[q] {
             return k;
         }
-        let from = ASSIGNED * k;
-        let to = from + ASSIGNED;
-        learn(ns, n, bits[k], &numbers[from..to], known);
-        k += 1;
+        learn(ns, one, known);
     }
-    k
+    found.len()
 }
 
-// The place after the last kept assignment; if there is none left, the last one's.
-fn next(many: usize) -> usize
-    requires { many < kept }
-    ensures { result < kept }
-{
-    if many + 1 < KEPT { many + 1 } else { many }
-}
-
-// Before the first question nothing is kept.
-pub fn none() -> Reply
-    ensures { result.many < kept }
-{
-    Reply {
-        yes: false,
-        many: 0,
-        tried: 0,
+impl Kept {
+    // Before the first question nothing is kept.
+    pub fn none() -> Self
+        ensures { result ≡ replicate questions false }
+    {
+        Kept {
+            found: [Found {
+                flags: 0,
+                numbers: [0; ASSIGNED],
+            }; KEPT],
+            many: 0,
+            tried: 0,
+            known: [false; QUESTIONS],
+        }
     }
-}
 
-// Question q about the tree in the first n nodes: question one of end q / 2, counted from 0, or if q is odd question two. `known` says
-// which questions are known to be answered no, and `last` is the reply to the question before.
-pub fn answer(
-    ns: &[u64],
-    n: usize,
-    q: usize,
-    bits: &mut [u32],
-    numbers: &mut [Whole],
-    known: &mut [u8],
-    last: Reply,
-) -> Reply
-    requires { (q < questions) × Room bits.old numbers.old known.old last.many }
-    ensures { Replies (node_at ns.now) n q known.old result.yes result.many known.new }
-{
-    let many = last.many;
-    let tried = recall(ns, n, q, bits, numbers, known, many, last.tried);
-    if known[q] == 1 {
-        return Reply {
-            yes: false,
-            many: many,
-            tried: tried,
+    // Another tree: nothing is known of it, and it has not been walked under any of the assignments, which stay.
+    pub fn another_tree(&mut self)
+        ensures { self.new ≡ replicate questions false }
+    {
+        self.tried = 0;
+        self.known = [false; QUESTIONS];
+    }
+
+    // Whether question q about the tree that stands from node 0 on is answered yes: question one of end q / 2, counted from 0, or if q is odd
+    // question two.
+    pub fn answer(&mut self, ns: &[Node], q: usize) -> bool
+        requires { q < questions }
+        ensures { Replies (node_at ns.now) q self.old result self.new }
+    {
+        let Kept {
+            found,
+            many,
+            tried,
+            known,
+        } = self;
+        *tried += recall(ns, q, &found[*tried..*many], known);
+        if known[q] {
+            return false;
+        }
+        let next = &mut found[*many];
+        let Some(flags) = answering::answer(ns, q / 2, q % 2 == 1, &mut next.numbers) else {
+            return true;
         };
-    }
-    let from = ASSIGNED * many;
-    let to = from + ASSIGNED;
-    let verdict = answering::answer(ns, n, q / 2, q % 2 == 1, &mut numbers[from..to]);
-    let Verdict::Found(flags) = verdict else {
-        return Reply {
-            yes: true,
-            many: many,
-            tried: tried,
-        };
-    };
-    bits[many] = flags;
-    learn(ns, n, flags, &numbers[from..to], known);
-    let more = next(many);
-    Reply {
-        yes: false,
-        many: more,
-        tried: more,
+        next.flags = flags;
+        learn(ns, next, known);
+        *many = (*many + 1).min(KEPT - 1);
+        *tried = *many;
+        false
     }
 }

@@ -7,11 +7,10 @@ use Rattle.nodes.specs.declared.Node.{Node}
 use Rattle.nodes.specs.Memory.{node_at}
 use Rattle.nodes.specs.Laid.{nodes, Laid}
 
-pub record Says (a : Answer) (tree : List ℕ) (size asked : ℕ) (finished : Bool) : Type 0 where
+pub record Says (a : Answer) (tree : List Node) (asked : ℕ) (finished : Bool) : Type 0 where
   pub laid : Laid a.tree (node_at tree) 0
-  pub sized : size ≡ nodes a.tree
   pub count : asked ≡ a.asked
   pub over : finished ≡ a.finished
 
-pub record Sweeps (n : ℕ → Node) (size ration : ℕ) (tree : List ℕ) (size' asked : ℕ) (finished : Bool) : Type 0 where
-  pub right : (t : Tree) → Laid t n 0 → nodes t ≡ size → size ≤ tree_room → Within t → Says (trimmed t ration) tree size' asked finished
+pub record Sweeps (n : ℕ → Node) (ration : ℕ) (tree : List Node) (asked : ℕ) (finished : Bool) : Type 0 where
+  pub right : (t : Tree) → Laid t n 0 → nodes t ≤ tree_room → Within t → Says (trimmed t ration) tree asked finished

@@ -6,49 +6,50 @@
 ghost use Rattle.nodes.specs.Memory.{node_at};
 ghost use Rattle.sweeping.specs.Swept.{Sweeps};
 
-use condition::{TREE_ROOM, Whole};
-use keeping::{KEPT, KEPT_NUMBERS, QUESTIONS, answer};
+use condition::TREE_ROOM;
+use folding::Cut;
+use keeping::Kept;
+use nodes::Node;
 
-// The tree reached, in its first `size` nodes, the questions asked, and whether the work is finished.
+// The tree reached, from node 0 on, the questions asked, and whether the work is finished.
 #[derive(Clone, Copy)]
 pub struct Swept {
-    pub tree: [u64; TREE_ROOM],
-    pub size: usize,
+    pub tree: [Node; TREE_ROOM],
     pub asked: u32,
     pub finished: bool,
 }
 
-// Sweeps the tree in the first n nodes. Question q is question one of end q / 2, counted from 0, or if q is odd question two.
-pub fn sweep(ns: &[u64], n: usize, ration: u32) -> Swept
-    ensures { Sweeps (node_at ns.now) n ration result.tree result.size result.asked result.finished }
+// Sweeps the tree that stands from node 0 on. Question q is question one of end q / 2, counted from 0, or if q is odd question two.
+pub fn sweep(ns: &[Node], ration: u32) -> Swept
+    ensures { Sweeps (node_at ns.now) ration result.tree result.asked result.finished }
 {
-    let mut tree = [0u64; TREE_ROOM];
-    let mut size = folding::fold(ns, n, 0, false, &mut tree);
-    let mut end = 2 * asking::live(&tree, size);
-    let mut bits = [0u32; KEPT];
-    let mut numbers: [Whole; KEPT_NUMBERS] = [0; KEPT_NUMBERS];
-    let mut known = [0u8; QUESTIONS];
-    let mut reply = keeping::none();
+    let mut tree = [Node::Plain(false); TREE_ROOM];
+    folding::fold(ns, None, &mut tree);
+    let mut end = 2 * asking::live(&tree);
+    let mut kept = Kept::none();
     let mut q: usize = 0;
     let mut asked: u32 = 0;
+    // No `for`: after a cut q starts again, and how many were asked outlives the loop.
     while asked < ration && q < end {
-        reply = answer(&tree, size, q, &mut bits, &mut numbers, &mut known, reply);
+        let yes = kept.answer(&tree, q);
         asked += 1;
-        if reply.yes {
+        if yes {
+            let cut = Cut {
+                end: q / 2,
+                to: q % 2 == 0,
+            };
             let before = tree;
-            size = folding::fold(&before, size, q / 2 + 1, q % 2 == 0, &mut tree);
-            end = 2 * asking::live(&tree, size);
-            known = [0u8; QUESTIONS];
-            reply.tried = 0;
+            folding::fold(&before, Some(cut), &mut tree);
+            end = 2 * asking::live(&tree);
+            kept.another_tree();
             q = 0;
             continue;
         }
         q += 1;
     }
     Swept {
-        tree: tree,
-        size: size,
-        asked: asked,
+        tree,
+        asked,
         finished: end <= q,
     }
 }

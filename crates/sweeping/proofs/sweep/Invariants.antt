@@ -6,7 +6,7 @@ use Rattle.sweeping.proofs.sweep.Given as goal
 
 abbrev pub invariant-loop-asked : goal.invariant-loop-asked
 invariant-loop-asked l =
-    Goes (node_at l.ns) l.n l.ration l.tree l.size l.end l.bits l.numbers l.known l.reply.many l.q l.asked
+    Goes (node_at l.ns) l.ration l.tree l.end l.kept l.q l.asked
 
 abbrev pub decreases-loop-asked : goal.decreases-loop-asked
 decreases-loop-asked l =
