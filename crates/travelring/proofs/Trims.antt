@@ -1,7 +1,7 @@
 -- What each way out of `trim` shows: a refusal of the reading; a result longer than the output; or the sweep's end. The tree read is
 -- within the limits, so its result is, so it fits the room of a tree, and what the sweep, the writer and the count of ends say is of it.
 use Prim.Native.Nat.{ℕ, ◌≤◌, ◌<◌}
-use mathlib.Core.Path.{◌≡◌, refl, sym, subst, ◌∙◌}
+use mathlib.Core.Path.{◌≡◌, refl, subst, ◌∙◌}
 use mathlib.Core.List.{List}
 use mathlib.Core.Bool.{Bool}
 use native.Mathlib.Omega.{arith}
@@ -14,13 +14,9 @@ use Rattle.condition.specs.Sweep.{Answer, trimmed}
 use Rattle.condition.proofs.Reading.{octets, read_written}
 use Rattle.condition.proofs.Trimmed.{trimmed_within}
 use Rattle.cursor.specs.declared.Refusal.{Refusal}
-<<<<<<< HEAD
 use Rattle.nodes.specs.declared.Node.{Node}
 use Rattle.nodes.specs.Memory.{node_at}
 use Rattle.nodes.specs.Laid.{nodes}
-=======
-use Rattle.nodes.specs.Memory.{node_at}
->>>>>>> origin/pass-nodes
 use Rattle.nodes.proofs.Laws.{nodes_few}
 use Rattle.reading.specs.Parts.{Holds}
 use Rattle.writing.specs.Written.{Wrote, Written}

@@ -1,7 +1,7 @@
 -- What each way out of `judge` and of `find` shows: numbers of another length are 11; else what reading answered, and with a tree its
 -- value, or what the search answered of it.
 use Prim.Native.Nat.{ℕ, ◌≤◌, ◌<◌}
-use mathlib.Core.Path.{◌≡◌, refl, sym, subst, ◌∙◌}
+use mathlib.Core.Path.{◌≡◌, refl, subst, ap, ◌∙◌}
 use mathlib.Core.List.{List}
 use mathlib.Core.Bool.{Bool}
 use native.Mathlib.Omega.{arith}
@@ -19,13 +19,19 @@ use Rattle.nodes.specs.Memory.{node_at}
 use Rattle.nodes.specs.Laid.{Laid, nodes}
 use Rattle.reading.specs.Parts.{Holds}
 use Rattle.settling.specs.Settled as settled
-use Rattle.std.specs.Prelude.{Option, Some, None, Result, Ok, Err}
+use Rattle.std.specs.Option.{ok_or}
+use Rattle.std.specs.Prelude.{Option, Some, None, Result, Ok, Err, IsErr, IsErrAnd}
 use Rattle.travelring.specs.declared.JudgeRefusal.{JudgeRefusal}
 use Rattle.travelring.specs.declared.JudgeRefusal.TheVariants as judge_refusal
 use Rattle.travelring.specs.Judging.{judged_tree, judged, told}
 use Rattle.travelring.specs.declared.FindRefusal.TheVariants as find_refusal
 use Rattle.travelring.specs.declared.FindRefusal.{FindRefusal}
 use Rattle.travelring.specs.Finding.{FindsRead, Finds}
+
+-- what a `?` passes on
+pub passed : {A E : Type 0} (r : Result A E) (e : E) → IsErr r × IsErrAnd r (λ y. y ≡ e) → r ≡ Err e
+passed (Ok x) e h = absurd h.1
+passed (Err y) e h = ap Err h.1
 
 -- ---- judge
 
@@ -85,8 +91,10 @@ module _ (s : List ℕ) (numbers : List ℤ) where
               (f.right fit t h.0 (omega (arith, h.1)) (formed_named t (read_written s t (octets s bytes) same).1.formed))
           told (refusal m p) same h = absurd h
 
-      pub find_shows : length numbers' ≡ length numbers → (bits : ℕ) → v ≡ Some bits → Finds s numbers (Ok bits) numbers'
-      find_shows long bits q = settles (Ok bits) (λ t h. let g = subst (λ z. settled.Right t z numbers') q h in (g.0, g.1, long ∙ fit))
+      shown : length numbers' ≡ length numbers → (w : Option ℕ) → v ≡ w → Finds s numbers (ok_or w find_refusal.Nothing) numbers'
+      shown long (Some bits) q =
+          settles (Ok bits) (λ t h. let g = subst (λ z. settled.Right t z numbers') q h in (g.0, g.1, long ∙ fit))
+      shown long None q = settles (Err find_refusal.Nothing) (λ t h. (subst (λ z. settled.Right t z numbers') q h, f.kept q))
 
-      pub find_shows_none : v ≡ None → Finds s numbers (Err find_refusal.Nothing) numbers'
-      find_shows_none q = settles (Err find_refusal.Nothing) (λ t h. (subst (λ z. settled.Right t z numbers') q h, f.kept q))
+      pub find_answers : length numbers' ≡ length numbers → Finds s numbers (ok_or v find_refusal.Nothing) numbers'
+      find_answers long = shown long v refl

@@ -100,7 +100,11 @@ impl From<Result<bool, JudgeRefusal>> for Judgement {
             Err(JudgeRefusal::Bytes(why)) => (why.number(), why.place(), false),
             Err(JudgeRefusal::Unfit) => (11, 0, false),
         };
-        Judgement { answer, place, value }
+        Judgement {
+            answer,
+            place,
+            value,
+        }
     }
 }
 
@@ -114,7 +118,11 @@ impl From<Result<u32, FindRefusal>> for Finding {
             Err(FindRefusal::Unfit) => (11, 0, 0),
             Err(FindRefusal::Nothing) => (12, 0, 0),
         };
-        Finding { answer, place, flags }
+        Finding {
+            answer,
+            place,
+            flags,
+        }
     }
 }
 
@@ -127,7 +135,12 @@ impl From<Result<Trimmed, TrimRefusal>> for Trimming {
             Err(TrimRefusal::Bytes(why)) => (why.number(), why.place(), 0, 0),
             Err(TrimRefusal::Long(needed)) => (9, needed, 0, 0),
         };
-        Trimming { answer, place, questions, ends }
+        Trimming {
+            answer,
+            place,
+            questions,
+            ends,
+        }
     }
 }
 
