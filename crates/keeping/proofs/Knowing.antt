@@ -1,6 +1,6 @@
 -- An assignment under which turning an end turns the root makes the end's critical constraint true. So, as the end is true or false there,
 -- it satisfies question two or question one, and the answer to that is no. What was known stays known, as the tree is the same.
-use Prim.Native.Nat.{ℕ, zero, suc, ◌/◌, ◌%◌, ◌<◌}
+use Prim.Native.Nat.{ℕ, ◌/◌, ◌%◌}
 use mathlib.Core.Path.{◌≡◌, refl, sym, ap, ap₂, ◌∙◌}
 use mathlib.Core.Logic.{inl, inr}
 use mathlib.Core.List.{List}

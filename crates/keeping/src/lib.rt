@@ -116,6 +116,7 @@ impl Kept {
         requires { q < questions }
         ensures { Replies (node_at ns.now) q self.old result self.new }
     {
+        // Taken apart, so that what is known can be changed while an assignment is lent.
         let Kept {
             found,
             many,

@@ -2,7 +2,7 @@
 -- A turn is one step of the machine; it stops where the machine is over, or the ration is used up. What is known of the questions is known
 -- of the present tree, and after a cut nothing is.
 use Prim.Native.Nat.{ℕ, ◌+◌, ◌*◌, ◌/◌, ◌%◌, ◌≤◌, ◌<◌}
-use mathlib.Core.Path.{◌≡◌, refl, sym, subst, ap, ap₂, ◌∙◌}
+use mathlib.Core.Path.{◌≡◌, refl, sym, ap, ◌∙◌}
 use mathlib.Core.Logic.{◌⊎◌, inl, inr}
 use mathlib.Core.List.{List}
 use mathlib.Core.Bool.{Bool, true, false, not}
@@ -11,15 +11,15 @@ use native.Mathlib.Numerals.{add-one}
 use lib.Dec.{eqb, leb}
 use lib.ListN.{length, get_or, replicate}
 use Rattle.std.specs.Prelude.{Some, None}
-use borrow.Table.Steps.{cases}
 use Rattle.std.proofs.lemmas.Grind.{common_steps}
-use borrow.Author.Tests.{eqb-true, eqb-false, leb-true, leb-false, eq-eqb, ne_eqb, le-leb, lt-leb}
+use Rattle.std.proofs.lemmas.Bool.Decides.{nat_tests}
+use borrow.Author.Tests.{le-leb, lt-leb}
 use Rattle.condition.specs.Limits.{tree_room}
 use Rattle.condition.specs.Meaning.{Tree, plain, Within}
 use Rattle.condition.specs.Folding.{fold, live}
 use Rattle.condition.specs.Critical.{put}
 use Rattle.condition.specs.Deciding.{sat}
-use Rattle.condition.specs.Sweep.{Stage, stage, start, over, on, run, answer, next, sweep, trimmed}
+use Rattle.condition.specs.Sweep.{Stage, start, over, on, run, answer, next, sweep, trimmed}
 use Rattle.condition.proofs.Folding.{fold_within}
 use Rattle.condition.proofs.Putting.{cut_within}
 use Rattle.condition.proofs.Run.{Reached, advance, stopped}
@@ -49,24 +49,12 @@ pub record Goes (n : ℕ → Node) (ration : ℕ) (tree : List Node) (end : ℕ)
 
 -- ---- questions by number
 
-parity : {X : Type 0} (r : ℕ) → r < 2 → (r ≡ 0 → eqb r 1 ≡ false → X) → (r ≡ 1 → eqb r 1 ≡ true → X) → X
-parity r h even odd =
-    cases (eqb r 1)
-    (λ e. odd (eqb-true r 1 e) e)
-    (λ e. even (let f = eqb-false r 1 e in omega arith) e)
-
 first_is : (q : ℕ) → eqb (q % 2) 0 ≡ not (eqb (q % 2) 1)
-first_is q =
-    parity (q % 2) (omega arith)
-    (λ r e. rw e (eq-eqb (q % 2) 0 r))
-    (λ r e. rw e (ne_eqb (q % 2) 0 (λ z. omega arith)))
+first_is q = grind (arith, nat_tests)
 
 -- a no: the next question
 on_is : (u : Tree) (q : ℕ) → on u (q / 2) (eqb (q % 2) 1) ≡ numbered u (q + 1)
-on_is u q =
-    parity (q % 2) (omega arith)
-    (λ r e. rw e (ap₂ (stage u) (omega arith) (sym (eq-eqb ((q + 1) % 2) 1 (omega arith)))))
-    (λ r e. rw e (ap₂ (stage u) (omega arith) (sym (ne_eqb ((q + 1) % 2) 1 (λ z. omega arith)))))
+on_is u q = grind (arith, nat_tests)
 
 -- ---- the start, and after a cut: nothing is known
 
@@ -163,15 +151,13 @@ module _ {tree : List Node} {r end : ℕ} {known : List Bool} (lives : Lives (no
 module _ {n : ℕ → Node} {ration : ℕ} {tree : List Node} {end : ℕ} {known : List Bool} {q asked : ℕ}
     (goes : Goes n ration tree end known q asked) where
   over_is : {t : Tree} (a : At t tree end known q asked) → leb end q ≡ over (numbered a.present q)
-  over_is a = cases (leb end q)
-      (λ e. e ∙ sym (le-leb (live a.present) (q / 2) (let h = leb-true end q e in omega (arith, a.ends))))
-      (λ e. e ∙ sym (lt-leb (live a.present) (q / 2) (let h = leb-false end q e in omega (arith, a.ends))))
+  over_is a = grind (arith, nat_tests, a.ends)
 
   ran : (ration ≤ asked) ⊎ (end ≤ q) → {t : Tree} (a : At t tree end known q asked) →
       run over (next sat) ration (start (fold t)) ≡ record { asked = asked; last = numbered a.present q }
   ran (inl h) {t} a =
-      let all_asked : asked ≡ ration = omega (arith, goes.within) in
-      subst (λ x. run over (next sat) x (start (fold t)) ≡ record { asked = asked; last = numbered a.present q }) all_asked a.reached
+      let all_asked : ration ≡ asked = omega (arith, goes.within) in
+      rw all_asked a.reached
   ran (inr h) {t} a =
       stopped over (next sat) asked ration (start (fold t)) (numbered a.present q) a.reached
       (le-leb (live a.present) (q / 2) (omega (arith, a.ends))) goes.within
