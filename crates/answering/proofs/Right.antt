@@ -20,7 +20,6 @@ use Rattle.condition.proofs.Depth.{not_deeper}
 use Rattle.condition.proofs.Deciding.{sat_same}
 use Rattle.nodes.specs.declared.Node.{Node}
 use Rattle.nodes.specs.Memory.{node_at}
-use Rattle.nodes.proofs.Laws.{sized}
 use Rattle.asking.specs.Asked.{asked, question as written, Asks}
 use Rattle.asking.proofs.Means.{question_holds, question_named}
 use Rattle.settling.specs.Settled.{Right, Finds}
@@ -57,7 +56,7 @@ pub answers : (n : ℕ → Node) (at : ℕ) (second : Bool) (o o' : List Node) (
 answers n at second o o' r numbers numbers' v wide asks finds = record {
   right = λ fifteen t laid near within end.
       let a = asks.right t laid near (omega arith) end (not_deeper t within) in
-      let right = finds.right fifteen (written t at (not second)) a.0 (omega (arith, a.1, asks.small, sized t n 0 laid))
+      let right = finds.right fifteen (written t at (not second)) a.0 (omega (arith, a.1, asks.few))
       (question_named t at (not second) within.formed) in
       answered t at second v numbers' end right;
 }
