@@ -283,19 +283,21 @@ module _ (n : ℕ → Node) (size m : ℕ) (opp : Bool) (o : List Node) (is : si
   pub refused : (size < question_room → length o ≤ size) → Asks n m opp o 0 o
   refused h = record {
     small = omega arith;
+    few = omega arith;
     long = refl;
     kept = λ x. refl;
     right = λ t l near room lt d. let s = sized t n 0 l in absurd (omega arith);
   }
 
   -- left is the output's part that is handed on: as many nodes as the tree has
-  module _ (left : ℕ) (whole : left ≡ size) (room : size < length o) (o' : List Node) (long : length o' ≡ length o) where
+  module _ (left : ℕ) (whole : left ≡ size) (near : size < question_room) (room : size < length o) (o' : List Node) (long : length o' ≡ length o) where
     pub no_end : Never n left m deepest → Asks n m opp o 0 o'
     no_end never = record {
       small = omega arith;
+      few = omega arith;
       long = long;
       kept = λ x. absurd (omega arith);
-      right = λ t l near x lt d. absurd (omega (arith, never t l (sym (sized t n 0 l) ∙ sym is ∙ sym whole) d));
+      right = λ t l h x lt d. absurd (omega (arith, never t l (sym (sized t n 0 l) ∙ sym is ∙ sym whole) d));
     }
 
     pub asks : (o₁ : List Node) (part : ℕ) (w : Wrote) → length o₁ ≡ left → Gathers n left m deepest opp (node_at o₁) w →
@@ -303,6 +305,7 @@ module _ (n : ℕ → Node) (size m : ℕ) (opp : Bool) (o : List Node) (is : si
     unfolding Laid nodes
     asks o₁ part w kept g e = record {
       small = omega (arith, g.small);
+      few = omega (arith, g.small);
       long = long;
       kept = λ x. absurd (omega arith);
       right = λ t l h x lt d.

@@ -115,6 +115,7 @@ MayGather n size m depth opp o (Some w) = Gathers n size m depth opp o w
 
 pub record Asks (n : ℕ → Node) (m : ℕ) (opp : Bool) (o : List Node) (r : ℕ) (o' : List Node) : Type 0 where
   pub small : r ≤ size_of (n 0) + 1
+  pub few : r ≤ question_room
   pub long : length o' ≡ length o
   pub kept : length o ≤ size_of (n 0) → o' ≡ o
   pub right : (t : Tree) → Laid t n 0 → nodes t < question_room → nodes t < length o → m < live t → deep t ≤ deepest →

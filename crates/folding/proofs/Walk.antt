@@ -70,7 +70,8 @@ module _ (n : ℕ → Node) (i left : ℕ) (x : Option Cut) where
         let p = at_join n i t every k s e l in
         let size : nodes t ≡ nodes_all p.ts + 1 = ap nodes p.tree in
         let found = K.is p.ts p.laid p.many (omega arith) in
-        rw p.tree (S.is (fold_all (cut_all p.ts x) (join_of every)) (shifted (fold_all (cut_all p.ts x) (join_of every)) kept K.small found.0), found.1);
+        let rest : Left = fold_all (cut_all p.ts x) (join_of every) in
+        rw p.tree (S.is rest (shifted rest kept K.small found.0), found.1);
   }
     where
       shifted : (l : Left) (kids : Option Kept) → size_kept kids ≤ left - 1 → Leaves l o₀ 0 kids → Leaves l o₁ 1 kids
@@ -232,16 +233,18 @@ module _ (n : ℕ → Node) (size : ℕ) (is : size ≡ size_of (n 0)) (x : Opti
   pub refused : (size ≤ tree_room → length o < tree_room) → Folded n x o o 0
   refused h = record {
     small = omega arith;
+    few = omega arith;
     kept = λ short. refl;
-    is = λ t l few wide end. let s = sized t n 0 l in absurd (omega arith);
+    is = λ t l fits wide end. let s = sized t n 0 l in absurd (omega arith);
   }
 
-  pub whole_folded : (y : Option Cut) (o' : List Node) (r : Kid) → tree_room ≤ length o → NodeRight n 0 size x y (node_at o') r →
+  pub whole_folded : (y : Option Cut) (o' : List Node) (r : Kid) → size ≤ tree_room → tree_room ≤ length o → NodeRight n 0 size x y (node_at o') r →
       Folded n x o o' r.size
-  whole_folded y o' r wide N = record {
+  whole_folded y o' r fits wide N = record {
     small = omega (arith, N.small);
+    few = omega (arith, N.small);
     kept = λ short. absurd (omega arith);
-    is = λ t l few room end.
+    is = λ t l h room end.
         let k = (N.is t l (omega (arith, sized t n 0 l))).0 in
         rw (← cut_is t x end) (k.laid, k.sized);
   }

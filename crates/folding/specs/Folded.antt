@@ -22,6 +22,7 @@ Has t (Some c) = c.end < live t
 -- what was written, o', is the folded tree in r nodes, where there is such an end
 pub record Folded (n : ℕ → Node) (cut : Option Cut) (o o' : List Node) (r : ℕ) : Type 0 where
   pub small : r ≤ size_of (n 0)
+  pub few : r ≤ tree_room
   pub kept : length o < tree_room → o' ≡ o
   pub is : (t : Tree) → Laid t n 0 → nodes t ≤ tree_room → tree_room ≤ length o → Has t cut →
       Laid (fold (cut_at t cut)) (node_at o') 0 × (r ≡ nodes (fold (cut_at t cut)))

@@ -11,14 +11,14 @@ use nodes::{Node, count_at, node_at, size_at};
 
 #[derive(Clone, Copy)]
 pub struct Settled {
+    table: [Distance; CELLS],
+    // which way each boolean is settled
+    flags: [Option<bool>; BOOLEANS],
     // where the `or`s that wait stand: a stack, which is an array and a count since nothing is allocated
     ors: [u8; QUESTION_ROOM],
     many: usize,
-    // which way each boolean is settled
-    flags: [Option<bool>; BOOLEANS],
-    table: [Distance; CELLS],
-    ghost few: { many ≤ question_room },
     ghost closed: { Closed table },
+    ghost few: { many ≤ question_room },
 }
 
 // An assignment that was found.
@@ -39,10 +39,10 @@ impl Settled {
         ensures { Clear result }
     {
         Settled {
+            table: differences::start(),
+            flags: [None; BOOLEANS],
             ors: [0; QUESTION_ROOM],
             many: 0,
-            flags: [None; BOOLEANS],
-            table: differences::start(),
         }
     }
 

@@ -14,10 +14,10 @@ returns-then-n-ge-QUESTION_ROOM c =
 
 pub returns-in_default : goal.returns-in_default
 returns-in_default c =
-    ways.no_end _ _ _ _ _ c.size_at-n.ensures.0 _ (simp (length-take, length-drop) (omega arith)) c.if-out-n.false _
+    ways.no_end _ _ _ _ _ c.size_at-n.ensures.0 _ (simp (length-take, length-drop) (omega arith)) c.if-n-ge-QUESTION_ROOM.false c.if-out-n.false _
     (search (rules, places)) c.in_default.ensures
 
 pub returns : goal.returns
 returns c =
-    ways.asks _ _ _ _ c.args.out.now c.size_at-n.ensures.0 _ (simp (length-take, length-drop) (omega arith)) c.if-out-n.false _ (omega arith)
+    ways.asks _ _ _ _ c.args.out.now c.size_at-n.ensures.0 _ (simp (length-take, length-drop) (omega arith)) c.if-n-ge-QUESTION_ROOM.false c.if-out-n.false _ (omega arith)
     c.gather.new.out _ _ (omega arith) c.in-Some.ensures c.put_node.ensures

@@ -10,4 +10,4 @@ returns-then-n-gt-TREE_ROOM c =
     (λ h. elim c.then-n-gt-TREE_ROOM.either [ inl large ↦ absurd (omega arith) | inr short ↦ short.1 ])
 
 pub returns : goal.returns
-returns c = whole_folded _ _ c.size_at-n.ensures.0 _ c.args.out.now _ _ _ (omega arith) c.node.ensures
+returns c = whole_folded _ _ c.size_at-n.ensures.0 _ c.args.out.now _ _ _ (omega arith) (omega arith) c.node.ensures
