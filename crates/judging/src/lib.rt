@@ -21,9 +21,7 @@ pub struct Assignment<'a> {
     pub numbers: &'a [Whole],
 }
 
-impl<'a> Assignment<'a> {
-    ghost use Rattle.judging.specs.Assigned.{assignment_of};
-
+impl Assignment<'_> {
     // Boolean p is the bit of weight 2^p: past the last there is none.
     #[tactic(auto, using(crate::proofs::Ends::no_bit), unfolding(condition::specs::Meaning::met, condition::specs::Meaning::given))]
     pub fn flag(self, p: u32) -> bool
@@ -66,6 +64,7 @@ pub fn both(all: bool, v: bool, u: bool) -> bool
 }
 
 // The tree at i, of at most `left` nodes. That i + left is small keeps every sum below from wrapping.
+// i and `left`, and no part of ns: a tree may go past the end of ns, where each node is plain false.
 #[cycle(children_node)]
 fn node(ns: &[Node], i: usize, left: usize, a: Assignment<'_>) -> bool
     requires { i + left ≤ question_room }

@@ -39,6 +39,7 @@ fn end(v: bool, marks: &mut [Option<bool>]) -> Seen
 }
 
 // The tree at i, of at most `left` nodes: the marks of its ends stand first. That i + left is small keeps every sum below from wrapping.
+// i and `left`, and no part of ns: a tree may go past the end of ns, where each node is plain false.
 #[cycle(children_node)]
 fn node(ns: &[Node], i: usize, left: usize, a: Assignment<'_>, marks: &mut [Option<bool>]) -> Seen
     requires { (i + left ≤ question_room) × (left ≤ length marks.old) }

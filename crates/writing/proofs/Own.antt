@@ -1,13 +1,13 @@
 -- A node's own bytes as code writes them, by the kinds of node, and that there are at most twelve: four numbers of three.
-use Prim.Native.Nat.{ℕ, ◌+◌, ◌*◌, ◌-◌, ◌≤◌, ◌<◌}
+use Prim.Native.Nat.{ℕ, ◌+◌, ◌*◌, ◌≤◌, ◌<◌}
 use mathlib.Core.Path.{◌≡◌, ap}
 use mathlib.Core.List.{List, [], ◌∷◌, ◌++◌, append-nil}
 use Rattle.std.specs.List.{flat_map}
-use mathlib.Core.Bool.{Bool, true, false, cond, not}
+use mir.Val.{bool_byte}
+use mathlib.Core.Bool.{Bool, true, false, cond}
 use native.Mathlib.Omega.{arith}
 use lib.ListN.{length, length-append}
-use borrow.Author.Tests.{lt-ltb, le-ltb}
-use Rattle.condition.specs.Limits.{largest_bound, groups, group_size}
+use Rattle.condition.specs.Limits.{groups, group_size}
 use Rattle.condition.specs.Bytes.{number, written, end_bytes}
 use Rattle.nodes.specs.declared.Node.{Node}
 use Rattle.nodes.specs.declared.Node.TheVariants as node
@@ -15,15 +15,8 @@ use Rattle.nodes.specs.Laid.{shifted}
 use Rattle.writing.specs.Written.{own, Put}
 use Rattle.writing.proofs.Room.{short_number}
 
--- a bound as it is written
-pub bound_below : (w : ℕ) → w < largest_bound → 2 * (largest_bound - 1 - w) + 1 ≡ written (shifted w)
-bound_below w h = rw (lt-ltb w largest_bound h) (omega arith)
-
-pub bound_above : (w : ℕ) → largest_bound ≤ w → 2 * (w - largest_bound) ≡ written (shifted w)
-bound_above w h = rw (le-ltb w largest_bound h)
-
 -- the four kinds' numbers, a tag first
-pub plain_own : (b : Bool) → flat_map number (cond (not b) 0 1 ∷ []) ≡ own (node.Plain b)
+pub plain_own : (b : Bool) → flat_map number (bool_byte b ∷ []) ≡ own (node.Plain b)
 unfolding own
 plain_own true = append-nil (number 1)
 plain_own false = append-nil (number 0)
@@ -47,7 +40,7 @@ bound_own false x y w = ap (λ l. number 7 ++ (number x ++ (number y ++ l))) (ap
 -- ---- the ways out of `put_own`: g is the tag, i, j and v are the other numbers
 
 module _ {o o' : List ℕ} {r : ℕ} {m : Node} where
-  pub put_plain : {b : Bool} {g : ℕ} → m ≡ node.Plain b → g ≡ cond (not b) 0 1 → Put o o' (flat_map number (g ∷ [])) r → Put o o' (own m) r
+  pub put_plain : {b : Bool} {g : ℕ} → m ≡ node.Plain b → g ≡ bool_byte b → Put o o' (flat_map number (g ∷ [])) r → Put o o' (own m) r
   put_plain {b} e q p = rw (e, ← plain_own b, ← q) p
 
   pub put_join : {b : Bool} {k s g i : ℕ} → m ≡ node.Join b k s → g ≡ cond b 2 3 → i ≡ k → Put o o' (flat_map number (g ∷ i ∷ [])) r
@@ -68,6 +61,10 @@ tag_length : (b : Bool) (x y : ℕ) → x < group_size → y < group_size → le
 tag_length true x y h k = ap length (short_number groups x (λ z. absurd (omega arith)) h)
 tag_length false x y h k = ap length (short_number groups y (λ z. absurd (omega arith)) k)
 
+plain_length : (b : Bool) → length (number (bool_byte b)) ≡ 1
+plain_length true = tag_length true 1 0 (omega arith) (omega arith)
+plain_length false = tag_length false 1 0 (omega arith) (omega arith)
+
 -- r is the length of the number n
 abbrev pub Counts : ℕ → ℕ → Type 0
 Counts n r = (r ≡ length (number n)) × (r ≤ groups)
@@ -79,7 +76,7 @@ counts_at : {n k r : ℕ} → n ≡ k → Counts n r → Counts k r
 counts_at e c = rw (← e) c
 
 pub counts_plain : {m : Node} {b : Bool} → m ≡ node.Plain b → CountsOwn m 1
-counts_plain {b = b} e = rw (e, ← plain_own b, append-nil) (omega (arith, tag_length (not b) 0 1 (omega arith) (omega arith)), omega arith)
+counts_plain {b = b} e = rw (e, ← plain_own b, append-nil) (omega (arith, plain_length b), omega arith)
 
 pub counts_join : {m : Node} {b : Bool} {k s i r : ℕ} → m ≡ node.Join b k s → i ≡ k → Counts i r → CountsOwn m (1 + r)
 counts_join {b = b} {k = k} {s = s} e f c =

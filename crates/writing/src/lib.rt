@@ -81,7 +81,7 @@ fn put_own(out: &mut [u8], node: Node) -> usize
     ensures { Put out.old out.new (own node) result }
 {
     match node {
-        Node::Plain(b) => put_each(out, &[tag(0, !b)]),
+        Node::Plain(b) => put_each(out, &[u64::from(b)]),
         Node::Join(all, k, _) => put_each(out, &[tag(2, all), u64::from(k)]),
         Node::Flag(so, p) => put_each(out, &[tag(4, so), u64::from(p)]),
         Node::Bound(so, x, y, w) => put_each(
@@ -92,6 +92,7 @@ fn put_own(out: &mut [u8], node: Node) -> usize
 }
 
 // The tree at i, of at most `left` nodes. That i + left is small keeps every sum below from wrapping.
+// i and `left`, and no part of ns: a tree may go past the end of ns, where each node is plain false.
 #[cycle(children_node)]
 fn node(ns: &[Node], i: usize, left: usize, out: &mut [u8]) -> usize
     requires { i + left ≤ tree_room }

@@ -3,10 +3,10 @@ use Rattle.writing.proofs.Own.{put_plain, put_join, put_flag, put_bound}
 use Rattle.writing.proofs.put_own.Goals as goal
 
 pub returns-in-Plain : goal.returns-in-Plain
-returns-in-Plain c = put_plain c.in-Plain.is c.tag.ensures c.put_each.ensures
+returns-in-Plain c = put_plain c.in-Plain.is c.from.ensures c.put_each.ensures
 
 pub returns-in-Join : goal.returns-in-Join
-returns-in-Join c = put_join c.in-Join.is c.tag-in-Join.ensures c.from.ensures c.put_each-in-Join.ensures
+returns-in-Join c = put_join c.in-Join.is c.tag.ensures c.from-in-Join.ensures c.put_each-in-Join.ensures
 
 pub returns-in-Flag : goal.returns-in-Flag
 returns-in-Flag c = put_flag c.in-Flag.is c.tag-in-Flag.ensures c.from-in-Flag.ensures c.put_each-in-Flag.ensures
