@@ -4,7 +4,7 @@ use lib.ListN.{length}
 use Rattle.reading.proofs.+children_node.Given as goal
 
 abbrev pub decreases-children : goal.decreases-children
-decreases-children l = 2 * (length l.s.now - l.c.at) + 1
+decreases-children l = 2 * (length l.s.now - l.done.cursor.at) + 1
 
 abbrev pub decreases-node : goal.decreases-node
-decreases-node l = 2 * (length l.s.now - l.c.at)
+decreases-node l = 2 * (length l.s.now - l.done.cursor.at)
