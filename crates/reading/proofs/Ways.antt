@@ -211,15 +211,15 @@ module _ (ns₀ ns : List Node) (s : List ℕ) (done : Part) where
 
         -- the connective is put before its children, which stand where they stood
         module _ (ns₁ : List Node) (p : Part) (K : ChildrenRight ns₀ ns₁ s k (part (done.free + 1) c2 done.ends) (Ok p))
-            (room : done.free < length ns₁) (put : ns ≡ set ns₁ done.free (node.Join (eqb g 2) k (p.free - done.free - 1))) where
+            (room : done.free < length ns₁) (put : ns ≡ set ns₁ done.free (node.Join (eqb g 2) k (p.free - (done.free + 1)))) where
           went : Went k ns₀ ns₁ (length s) c2.at done.ends (done.free + 1) p
           went = K.goes
 
-          head : node_at ns done.free ≡ node.Join (eqb g 2) k (p.free - done.free - 1)
-          head = put_is ns₁ ns done.free (node.Join (eqb g 2) k (p.free - done.free - 1)) room put
+          head : node_at ns done.free ≡ node.Join (eqb g 2) k (p.free - (done.free + 1))
+          head = put_is ns₁ ns done.free (node.Join (eqb g 2) k (p.free - (done.free + 1))) room put
 
           keeps : (x : ℕ) → (x ≡ done.free → ⊥) → node_at ns x ≡ node_at ns₁ x
-          keeps = put_keeps ns₁ ns done.free (node.Join (eqb g 2) k (p.free - done.free - 1)) room put
+          keeps = put_keeps ns₁ ns done.free (node.Join (eqb g 2) k (p.free - (done.free + 1))) room put
 
           join_shows : (x : Reading Forest) → Yields x (λ ts l at'. count ts ≡ k) →
               Shows LaidAll nodes_all ends_all s ns₁ (done.free + 1) done.ends (Ok p) x →
@@ -227,7 +227,7 @@ module _ (ns₀ ns : List Node) (s : List ℕ) (done : Part) where
           unfolding Laid nodes ends
           join_shows (got ts l at') n h =
               let next = h.next in
-              let size : p.free - done.free - 1 ≡ nodes_all ts = omega arith in
+              let size : p.free - (done.free + 1) ≡ nodes_all ts = omega arith in
               let is_all = is_all_join_of (eqb g 2) in
               let top = head in
               record {
@@ -356,6 +356,39 @@ module _ (ns₀ : List Node) (s : List ℕ) (k : ℕ) (done : Part) where
             least = omega (arith, first_went.least, w.least);
             kept = λ x lt. w.kept x (omega (arith, first_went.some)) ∙ first_went.kept x lt;
           }) R.goes;
+        }
+
+-- so far in the children: whatever is read from here on as the `left` ones was read from the beginning as all k
+pub record SoFar (ns₀ ns : List Node) (s : List ℕ) (k : ℕ) (begun done : Part) (left : ℕ) : Type 0 where
+  pub may : May left s done (length ns)
+  pub on : begun.cursor.at ≤ done.cursor.at
+  pub all : (ns' : List Node) (r : Result Part Refusal) → ChildrenRight ns ns' s left done r → ChildrenRight ns₀ ns' s k begun r
+
+pub begins : (ns : List Node) (s : List ℕ) (k : ℕ) (done : Part) → May k s done (length ns) → SoFar ns ns s k done done k
+begins ns s k done may = record { may = may; on = omega arith; all = λ ns' r h. h }
+
+module _ (ns₀ ns : List Node) (s : List ℕ) (k : ℕ) (begun done : Part) (left : ℕ) (far : SoFar ns₀ ns s k begun done left) where
+  pub over : left ≡ 0 → ChildrenRight ns₀ ns s k begun (Ok done)
+  over z = far.all _ _ (all_none ns s left done z far.may)
+
+  module _ (some : 0 < left) (ns₁ : List Node) where
+    pub stops_there : (why : Refusal) → NodeRight ns ns₁ s (part done.free done.cursor (done.ends + (left - 1))) (Err why) →
+        ChildrenRight ns₀ ns₁ s k begun (Err why)
+    stops_there why F = far.all _ _ (first_stop ns s left done (λ z. omega arith) ns₁ ns₁ why F)
+
+    pub another : (p : Part) → NodeRight ns ns₁ s (part done.free done.cursor (done.ends + (left - 1))) (Ok p) → length ns₁ ≡ length ns →
+        SoFar ns₀ ns₁ s k begun (part p.free p.cursor (p.ends - (left - 1))) (left - 1)
+    another p F same =
+        let went : Went 1 ns ns₁ (length s) done.cursor.at (done.ends + (left - 1)) done.free p = F.goes in
+        record {
+          may = record {
+            inside = went.inside;
+            few = omega (arith, went.most, went.least);
+            before = omega (arith, went.fits, went.least, far.may.before);
+            wide = omega (arith, far.may.wide);
+          };
+          on = omega (arith, far.on, went.on);
+          all = λ ns' r R. far.all ns' r (all_more ns s left done (λ z. omega arith) ns₁ ns' p F r R);
         }
 
 -- ---- the whole

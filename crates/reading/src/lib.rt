@@ -12,7 +12,7 @@ use condition::{LARGEST_BOUND, LAST_BOOLEAN, LAST_NUMBER, MOST_ENDS, Numeral, TR
 use cursor::{Cursor, Refusal};
 use nodes::{Node, put_node};
 
-// How far the reading has come: the next free node, the next cursor, and the ends read with those that are still owed beside.
+// The part of the reading that is done: the next free node, the next cursor, and the ends read, with those that are owed beside.
 #[derive(Clone, Copy)]
 struct Part {
     free: usize,
@@ -100,21 +100,14 @@ fn node(s: &[u8], done: Part, ns: &mut [Node]) -> Result<Part, Refusal>
             if MOST_ENDS - done.ends < k {
                 return Err(Refusal::Crowd(done.cursor.at));
             }
-            let kids = children(
-                s,
-                Part {
-                    free: done.free + 1,
-                    cursor: c2,
-                    ..done
-                },
-                k,
-                ns,
-            )?;
-            put_node(
-                ns,
-                done.free,
-                Node::Join(g == 2, k, (kids.free - done.free - 1) as u32),
-            );
+            let below = Part {
+                free: done.free + 1,
+                cursor: c2,
+                ..done
+            };
+            let kids = children(s, below, k, ns)?;
+            let size = (kids.free - below.free) as u32;
+            put_node(ns, done.free, Node::Join(g == 2, k, size));
             Ok(kids)
         }
         4 | 5 => flag_end(s, Part { cursor: c1, ..done }, g, ns),
@@ -124,31 +117,16 @@ fn node(s: &[u8], done: Part, ns: &mut [Node]) -> Result<Part, Refusal>
 
 // k nodes one after the other: while one is read, its younger siblings are owed.
 #[cycle(children_node)]
-fn children(s: &[u8], done: Part, k: u32, ns: &mut [Node]) -> Result<Part, Refusal>
+fn children(s: &[u8], mut done: Part, k: u32, ns: &mut [Node]) -> Result<Part, Refusal>
     requires { May k s.now done (length ns.old) }
     ensures { ChildrenRight ns.old ns.new s.now k done result }
 {
-    if k == 0 {
-        return Ok(done);
+    for owed in (0..k).rev() {
+        done.ends += owed;
+        done = node(s, done, ns)?;
+        done.ends -= owed;
     }
-    let owed = k - 1;
-    let first = node(
-        s,
-        Part {
-            ends: done.ends + owed,
-            ..done
-        },
-        ns,
-    )?;
-    children(
-        s,
-        Part {
-            ends: first.ends - owed,
-            ..first
-        },
-        owed,
-        ns,
-    )
+    Ok(done)
 }
 
 // The whole input: a condition in memory, its root at node 0.

@@ -7,16 +7,23 @@ use Rattle.reading.proofs.Equations as eq
 use Rattle.reading.proofs.Ways as ways
 use Rattle.reading.proofs.+children_node.Goals as goal
 
-pub children-returns-then-k-eq0 : goal.children-returns-then-k-eq0
-children-returns-then-k-eq0 t c = ways.all_none _ _ _ _ c.if-k-eq0.true c.requires
+pub children-loop-owed-init : goal.children-loop-owed-init
+children-loop-owed-init t c = ways.begins _ _ _ _ c.requires
 
-pub children-returns-in_err-first : goal.children-returns-in_err-first
-children-returns-in_err-first t c =
+pub children-node-requires : goal.children-node-requires
+children-node-requires t c = omega (arith, c.decreases, c.loop-owed.invariant.may, c.loop-owed.invariant.on)
+
+pub children-returns-in_err-done : goal.children-returns-in_err-done
+children-returns-in_err-done t c =
     let p = err_from_is_err_and c.from_residual.result c.from_residual.ensures.1 in
-    rw (p.1, p.2) (ways.first_stop _ _ _ _ c.if-k-eq0.false _ _ _ c.in_err-first.ensures)
+    rw (p.1, p.2) (ways.stops_there _ _ _ _ _ _ _ c.loop-owed.invariant c.loop-owed-test.true _ _ c.in_err-done.ensures)
+
+pub children-loop-owed-preserved : goal.children-loop-owed-preserved
+children-loop-owed-preserved t c =
+    ways.another _ _ _ _ _ _ _ c.loop-owed.invariant c.loop-owed-test.true _ _ c.in_ok-done.ensures c.node.auto.ns
 
 pub children-returns : goal.children-returns
-children-returns t c = ways.all_more _ _ _ _ c.if-k-eq0.false _ _ _ c.in_ok-first.ensures _ c.children.ensures
+children-returns t c = ways.over _ _ _ _ _ _ _ c.loop-owed.invariant (omega arith)
 
 pub node-returns-in_default : goal.node-returns-in_default
 node-returns-in_default t c =
