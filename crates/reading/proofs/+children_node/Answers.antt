@@ -13,14 +13,14 @@ children-loop-owed-init t c = ways.begins _ _ _ _ c.requires
 pub children-node-requires : goal.children-node-requires
 children-node-requires t c = omega (arith, c.decreases, c.loop-owed.invariant.may, c.loop-owed.invariant.on)
 
-pub children-returns-in_err-done : goal.children-returns-in_err-done
-children-returns-in_err-done t c =
+pub children-returns-in_err-child : goal.children-returns-in_err-child
+children-returns-in_err-child t c =
     let p = err_from_is_err_and c.from_residual.result c.from_residual.ensures.1 in
-    rw (p.1, p.2) (ways.stops_there _ _ _ _ _ _ _ c.loop-owed.invariant c.loop-owed-test.true _ _ c.in_err-done.ensures)
+    rw (p.1, p.2) (ways.stops_there _ _ _ _ _ _ _ c.loop-owed.invariant c.loop-owed-test.true _ _ c.in_err-child.ensures)
 
 pub children-loop-owed-preserved : goal.children-loop-owed-preserved
 children-loop-owed-preserved t c =
-    ways.another _ _ _ _ _ _ _ c.loop-owed.invariant c.loop-owed-test.true _ _ c.in_ok-done.ensures c.node.auto.ns
+    ways.another _ _ _ _ _ _ _ c.loop-owed.invariant c.loop-owed-test.true _ _ c.in_ok-child.ensures c.node.auto.ns
 
 pub children-returns : goal.children-returns
 children-returns t c = ways.over _ _ _ _ _ _ _ c.loop-owed.invariant (omega arith)
