@@ -2,17 +2,17 @@
 // each number step taken apart by `let .. else`, the other case turned into the refusal; so only the parts are passed on by `?`.
 #![tactic(auto)]
 
-ghost use Rattle.std.specs.Prelude.{◌≡◌, ◌≤◌, ◌<◌, ◌*◌, length};
-ghost use Rattle.condition.specs.Limits.{largest_bound};
+ghost use Rattle.std.specs.Prelude.{◌≡◌, ◌≤◌, ◌<◌, ◌*◌, length, set};
+ghost use Rattle.condition.specs.Limits.{largest_bound, most_ends};
 ghost use Rattle.condition.specs.Reading.{bound_of, read as read_of};
 ghost use Rattle.nodes.specs.Laid.{shifted};
-ghost use Rattle.reading.specs.Parts.{May, EndRight, NodeRight, ChildrenRight, Holds};
+ghost use Rattle.reading.specs.Parts.{after, May, EndRight, NodeRight, ChildrenRight, Holds};
 
 use condition::{LARGEST_BOUND, LAST_BOOLEAN, LAST_NUMBER, MOST_ENDS, Numeral, TREE_ROOM};
 use cursor::{Cursor, Refusal};
 use nodes::{Node, put_node};
 
-// What a part of the reading came to: the next free node, the next cursor and the ends read.
+// The part of the reading that is done: the next free node, the next cursor, and the ends read, with those that are owed beside.
 #[derive(Clone, Copy)]
 struct Part {
     free: usize,
@@ -32,31 +32,39 @@ fn shift(w: Numeral) -> u32
     LARGEST_BOUND - 1 - w / 2
 }
 
-// An end of a boolean, its tag g read, put at node i.
-#[tactic(auto, using(crate::proofs::Ways::stops))]
-fn flag_end(s: &[u8], c: Cursor, g: Numeral, ns: &mut [Node], i: usize) -> Result<Part, Refusal>
-    requires { (c.at ≤ length s.now) × (i < length ns.old) × (g < 6) }
-    ensures { EndRight ns.old ns.new s.now g c.at i result }
+// An end, which stands before c, put at the next free node.
+fn put_end(ns: &mut [Node], done: Part, end: Node, c: Cursor) -> Part
+    requires { (done.free < length ns.old) × (done.ends < most_ends) }
+    ensures { (ns.new ≡ set ns.old done.free end) × (result ≡ after done c) }
 {
-    let name = c.name(s, LAST_BOOLEAN);
-    let Ok((p, c1)) = name else {
-        return Err(name.unwrap_err());
-    };
-    put_node(ns, i, Node::Flag(g == 4, p));
-    Ok(Part {
-        free: i + 1,
-        cursor: c1,
-        ends: 1,
-    })
+    put_node(ns, done.free, end);
+    Part {
+        free: done.free + 1,
+        cursor: c,
+        ends: done.ends + 1,
+    }
 }
 
-// An end of two numbers, its tag g read, put at node i.
+// An end of a boolean, its tag g read.
 #[tactic(auto, using(crate::proofs::Ways::stops))]
-fn bound_end(s: &[u8], c: Cursor, g: Numeral, ns: &mut [Node], i: usize) -> Result<Part, Refusal>
-    requires { (c.at ≤ length s.now) × (i < length ns.old) × (6 ≤ g) }
-    ensures { EndRight ns.old ns.new s.now g c.at i result }
+fn flag_end(s: &[u8], done: Part, g: Numeral, ns: &mut [Node]) -> Result<Part, Refusal>
+    requires { May 1 s.now done (length ns.old) × (g < 6) }
+    ensures { EndRight ns.old ns.new s.now g done result }
 {
-    let first = c.name(s, LAST_NUMBER);
+    let name = done.cursor.name(s, LAST_BOOLEAN);
+    let Ok((p, c)) = name else {
+        return Err(name.unwrap_err());
+    };
+    Ok(put_end(ns, done, Node::Flag(g == 4, p), c))
+}
+
+// An end of two numbers, its tag g read.
+#[tactic(auto, using(crate::proofs::Ways::stops))]
+fn bound_end(s: &[u8], done: Part, g: Numeral, ns: &mut [Node]) -> Result<Part, Refusal>
+    requires { May 1 s.now done (length ns.old) × (6 ≤ g) }
+    ensures { EndRight ns.old ns.new s.now g done result }
+{
+    let first = done.cursor.name(s, LAST_NUMBER);
     let Ok((x, c1)) = first else {
         return Err(first.unwrap_err());
     };
@@ -68,77 +76,64 @@ fn bound_end(s: &[u8], c: Cursor, g: Numeral, ns: &mut [Node], i: usize) -> Resu
     let Ok((w, c3)) = bound else {
         return Err(bound.unwrap_err());
     };
-    put_node(ns, i, Node::Bound(g == 6, x, y, shift(w)));
-    Ok(Part {
-        free: i + 1,
-        cursor: c3,
-        ends: 1,
-    })
+    Ok(put_end(ns, done, Node::Bound(g == 6, x, y, shift(w)), c3))
 }
 
-// One node and all below it, from node i on. others: the ends read before it and those owed beside it.
+// One node and all below it.
 #[cycle(children_node)]
 #[tactic(auto, using(cursor::proofs::Steps::up_to_taken, cursor::proofs::Steps::count_taken))]
-fn node(s: &[u8], c: Cursor, others: u32, ns: &mut [Node], i: usize) -> Result<Part, Refusal>
-    requires { May 1 s.now c.at others i (length ns.old) }
-    ensures { NodeRight ns.old ns.new s.now c.at others i result }
+fn node(s: &[u8], done: Part, ns: &mut [Node]) -> Result<Part, Refusal>
+    requires { May 1 s.now done (length ns.old) }
+    ensures { NodeRight ns.old ns.new s.now done result }
 {
-    let tag = c.tag(s);
+    let tag = done.cursor.tag(s);
     let Ok((g, c1)) = tag else {
         return Err(tag.unwrap_err());
     };
     match g {
-        0 | 1 => {
-            put_node(ns, i, Node::Plain(g == 1));
-            Ok(Part {
-                free: i + 1,
-                cursor: c1,
-                ends: 1,
-            })
-        }
+        0 | 1 => Ok(put_end(ns, done, Node::Plain(g == 1), c1)),
         2 | 3 => {
             let count = c1.count(s);
             let Ok((k, c2)) = count else {
                 return Err(count.unwrap_err());
             };
-            if MOST_ENDS - others < k {
-                return Err(Refusal::Crowd(c.at));
+            if MOST_ENDS - done.ends < k {
+                return Err(Refusal::Crowd(done.cursor.at));
             }
-            let kids = children(s, c2, k, others, ns, i + 1)?;
-            put_node(ns, i, Node::Join(g == 2, k, (kids.free - i - 1) as u32));
+            let below = Part {
+                free: done.free + 1,
+                cursor: c2,
+                ..done
+            };
+            let kids = children(s, below, k, ns)?;
+            let size = (kids.free - below.free) as u32;
+            put_node(ns, done.free, Node::Join(g == 2, k, size));
             Ok(kids)
         }
-        4 | 5 => flag_end(s, c1, g, ns, i),
-        _ => bound_end(s, c1, g, ns, i),
+        4 | 5 => flag_end(s, Part { cursor: c1, ..done }, g, ns),
+        _ => bound_end(s, Part { cursor: c1, ..done }, g, ns),
     }
 }
 
-// k nodes one after the other: while one is read, its younger siblings are owed.
+// k nodes one after the other: while one is read, its younger siblings are owed. (Where `done` itself is changed in place, its number of
+// ends goes through memory, and reading takes 1.5 times as long.)
 #[cycle(children_node)]
-fn children(
-    s: &[u8],
-    c: Cursor,
-    k: u32,
-    others: u32,
-    ns: &mut [Node],
-    i: usize,
-) -> Result<Part, Refusal>
-    requires { May k s.now c.at others i (length ns.old) }
-    ensures { ChildrenRight ns.old ns.new s.now k c.at others i result }
+fn children(s: &[u8], mut done: Part, k: u32, ns: &mut [Node]) -> Result<Part, Refusal>
+    requires { May k s.now done (length ns.old) }
+    ensures { ChildrenRight ns.old ns.new s.now k done result }
 {
-    if k == 0 {
-        return Ok(Part {
-            free: i,
-            cursor: c,
-            ends: 0,
-        });
+    for owed in (0..k).rev() {
+        let beside = Part {
+            ends: done.ends + owed,
+            ..done
+        };
+        let child = node(s, beside, ns)?;
+        done = Part {
+            ends: child.ends - owed,
+            ..child
+        };
     }
-    let first = node(s, c, others + (k - 1), ns, i)?;
-    let rest = children(s, first.cursor, k - 1, others + first.ends, ns, first.free)?;
-    Ok(Part {
-        ends: first.ends + rest.ends,
-        ..rest
-    })
+    Ok(done)
 }
 
 // The whole input: a condition in memory, its root at node 0.
@@ -146,8 +141,13 @@ pub fn read(s: &[u8]) -> Result<[Node; TREE_ROOM], Refusal>
     ensures { Holds result (read_of s.now) }
 {
     let mut ns = [Node::Plain(false); TREE_ROOM];
-    let tree = node(s, Cursor { at: 0 }, 0, &mut ns, 0)?;
-    let at = tree.cursor.at;
+    let start = Part {
+        free: 0,
+        cursor: Cursor { at: 0 },
+        ends: 0,
+    };
+    let whole = node(s, start, &mut ns)?;
+    let at = whole.cursor.at;
     if at < s.len() {
         return Err(Refusal::After(at));
     }

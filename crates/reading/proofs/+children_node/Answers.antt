@@ -7,55 +7,55 @@ use Rattle.reading.proofs.Equations as eq
 use Rattle.reading.proofs.Ways as ways
 use Rattle.reading.proofs.+children_node.Goals as goal
 
-pub children-returns-then-k-eq0 : goal.children-returns-then-k-eq0
-children-returns-then-k-eq0 t c = ways.all_none _ _ _ _ _ _ c.if-k-eq0.true c.requires
+pub children-loop-owed-init : goal.children-loop-owed-init
+children-loop-owed-init t c = ways.begins _ _ _ _ c.requires
 
-pub children-returns-in_err-first : goal.children-returns-in_err-first
-children-returns-in_err-first t c =
+pub children-node-requires : goal.children-node-requires
+children-node-requires t c = omega (arith, c.decreases, c.loop-owed.invariant.may, c.loop-owed.invariant.on)
+
+pub children-returns-in_err-child : goal.children-returns-in_err-child
+children-returns-in_err-child t c =
     let p = err_from_is_err_and c.from_residual.result c.from_residual.ensures.1 in
-    rw (p.1, p.2) (ways.first_stop _ _ _ _ _ _ c.if-k-eq0.false _ _ _ c.in_err-first.ensures)
+    rw (p.1, p.2) (ways.stops_there _ _ _ _ _ _ _ c.loop-owed.invariant c.loop-owed-test.true _ _ c.in_err-child.ensures)
 
-pub children-returns-in_err-rest : goal.children-returns-in_err-rest
-children-returns-in_err-rest t c =
-    let p = err_from_is_err_and c.from_residual-in_err-rest.result c.from_residual-in_err-rest.ensures.1 in
-    rw (p.1, p.2) (ways.rest_stop _ _ _ _ _ _ c.if-k-eq0.false _ _ _ c.in_ok-first.ensures _ c.in_err-rest.ensures)
+pub children-loop-owed-preserved : goal.children-loop-owed-preserved
+children-loop-owed-preserved t c =
+    ways.another _ _ _ _ _ _ _ c.loop-owed.invariant c.loop-owed-test.true _ _ c.in_ok-child.ensures c.node.auto.ns
 
 pub children-returns : goal.children-returns
-children-returns t c = ways.all_more _ _ _ _ _ _ c.if-k-eq0.false _ _ _ c.in_ok-first.ensures _ c.in_ok-rest.ensures
+children-returns t c = ways.over _ _ _ _ _ _ _ c.loop-owed.invariant (omega arith)
 
 pub node-returns-in_default : goal.node-returns-in_default
 node-returns-in_default t c =
-    ways.node_stops _ _ _ _ _ _ _ _ _ c.unwrap_err.ensures c.tag-tag.ensures (λ kids. eq.tag_stop kids _ _ _ _ _)
+    ways.node_stops _ _ _ _ _ _ _ c.unwrap_err.ensures c.tag-tag.ensures (λ kids. eq.tag_stop kids _ _ _ _ _)
 
 pub node-returns-in-0 : goal.node-returns-in-0
 node-returns-in-0 t c =
-    ways.node_plain _ _ _ _ _ _ c.requires.inside _ _ c.in-Ok.ensures (omega arith) c.requires.few (omega (arith, c.requires)) c.put_node.ensures
+    ways.node_plain _ _ _ _ c.requires _ _ c.in-Ok.ensures (omega arith) c.put_end.ensures.0 _ c.put_end.ensures.1
 
 pub node-returns-in_default-count : goal.node-returns-in_default-count
 node-returns-in_default-count t c =
-    ways.node_stops _ _ _ _ _ _ _ _ _ c.unwrap_err-in_default-count.ensures c.count-count.ensures
+    ways.node_stops _ _ _ _ _ _ _ c.unwrap_err-in_default-count.ensures c.count-count.ensures
     (λ kids. eq.count_stop kids _ _ _ _ _ _ (sym c.in-Ok.ensures) (omega arith) (omega arith) _ _)
 
-pub node-returns-then-others-k : goal.node-returns-then-others-k
-node-returns-then-others-k t c =
-    ways.node_crowd _ _ _ _ _ _ c.requires.inside _ _ c.in-Ok.ensures (omega arith) (omega arith) _ _ c.in-Ok-count.ensures c.if-others-k.true c.requires.few
+pub node-returns-then-done-k : goal.node-returns-then-done-k
+node-returns-then-done-k t c =
+    ways.node_crowd _ _ _ _ c.requires _ _ c.in-Ok.ensures (omega arith) (omega arith) _ _ c.in-Ok-count.ensures c.if-done-k.true
 
 pub node-returns-in_err-kids-in-2 : goal.node-returns-in_err-kids-in-2
 node-returns-in_err-kids-in-2 t c =
     let p = err_from_is_err_and c.from_residual.result c.from_residual.ensures.1 in
-    rw (p.1, p.2) (ways.node_kids_stop _ _ _ _ _ _ c.requires.inside _ _ c.in-Ok.ensures (omega arith) (omega arith) _ _ c.in-Ok-count.ensures
-    (omega (arith, c.if-others-k.false, c.requires)) _ _ c.in_err-kids-in-2.ensures)
+    rw (p.1, p.2) (ways.node_kids_stop _ _ _ _ c.requires _ _ c.in-Ok.ensures (omega arith) (omega arith) _ _ c.in-Ok-count.ensures
+    (omega (arith, c.if-done-k.false, c.requires)) _ _ c.in_err-kids-in-2.ensures)
 
 pub node-returns-in-4 : goal.node-returns-in-4
-node-returns-in-4 t c =
-    ways.node_end _ _ _ _ _ _ c.requires.inside _ _ c.in-Ok.ensures (omega arith) c.requires.few _ c.flag_end.ensures
+node-returns-in-4 t c = ways.node_end _ _ _ _ c.requires _ _ c.in-Ok.ensures (omega arith) _ c.flag_end.ensures
 
 pub node-returns-in_default-g : goal.node-returns-in_default-g
-node-returns-in_default-g t c =
-    ways.node_end _ _ _ _ _ _ c.requires.inside _ _ c.in-Ok.ensures (omega arith) c.requires.few _ c.bound_end.ensures
+node-returns-in_default-g t c = ways.node_end _ _ _ _ c.requires _ _ c.in-Ok.ensures (omega arith) _ c.bound_end.ensures
 
 pub node-returns-in_ok-kids-in-2 : goal.node-returns-in_ok-kids-in-2
 node-returns-in_ok-kids-in-2 t c =
-    ways.node_join _ _ _ _ _ _ c.requires.inside _ _ c.in-Ok.ensures (omega arith) (omega arith) _ _ c.in-Ok-count.ensures
-    (omega (arith, c.if-others-k.false, c.requires)) _ _ c.in_ok-kids-in-2.ensures
-    (omega (arith, c.requires, c.children.auto)) c.put_node-in-2.ensures c.requires.few
+    ways.node_join _ _ _ _ c.requires _ _ c.in-Ok.ensures (omega arith) (omega arith) _ _ c.in-Ok-count.ensures
+    (omega (arith, c.if-done-k.false, c.requires)) _ _ c.in_ok-kids-in-2.ensures (omega (arith, c.requires, c.children.auto))
+    c.put_node.ensures

@@ -1,8 +1,9 @@
--- `reading::bound_end` meets its contract: a step that yields no value stops it, and what was read is put at node i (Ways.antt).
+-- `reading::bound_end` meets its contract: a step that yields no value stops it, and what was read is put at the next free node
+-- (Ways.antt).
 use Rattle.reading.proofs.Ways as ways
 use Rattle.reading.proofs.bound_end.Goals as goal
 
 pub returns : goal.returns
 returns c =
-    ways.end_bound _ _ _ _ _ _ c.requires.1 c.requires.0 _ _ _ _ _ _ _ c.requires.2 c.in-Ok.ensures c.in-Ok-second.ensures
-    c.in-Ok-bound.ensures c.shift.ensures c.put_node.ensures
+    ways.end_bound _ _ _ _ _ c.requires.0 _ _ _ _ _ _ _ _ c.requires.1 c.in-Ok.ensures c.in-Ok-second.ensures c.in-Ok-bound.ensures
+    c.shift.ensures c.put_end.ensures.0 c.put_end.ensures.1

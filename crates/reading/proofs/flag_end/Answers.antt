@@ -1,7 +1,7 @@
--- `reading::flag_end` meets its contract: a step that yields no value stops it, and what was read is put at node i (Ways.antt).
+-- `reading::flag_end` meets its contract: a step that yields no value stops it, and what was read is put at the next free node (Ways.antt).
 use Rattle.reading.proofs.Ways as ways
 use Rattle.reading.proofs.flag_end.Goals as goal
 
 pub returns : goal.returns
 returns c =
-    ways.end_flag _ _ _ _ _ _ c.requires.1 c.requires.0 _ _ c.requires.2 c.in-Ok.ensures c.put_node.ensures
+    ways.end_flag _ _ _ _ _ c.requires.0 _ _ _ c.requires.1 c.in-Ok.ensures c.put_end.ensures.0 c.put_end.ensures.1

@@ -3,12 +3,12 @@ use Rattle.std.proofs.lemmas.Result.{err_from_is_err_and}
 use Rattle.reading.proofs.Ways as ways
 use Rattle.reading.proofs.read.Goals as goal
 
-pub returns-in_err-tree : goal.returns-in_err-tree
-returns-in_err-tree c =
-    let p = err_from_is_err_and c.from_residual.result c.from_residual.ensures.1 in rw (p.1, p.2) (ways.whole_stops _ _ _ _ c.in_err-tree.ensures)
+pub returns-in_err-whole : goal.returns-in_err-whole
+returns-in_err-whole c =
+    let p = err_from_is_err_and c.from_residual.result c.from_residual.ensures.1 in rw (p.1, p.2) (ways.whole_stops _ _ _ _ c.in_err-whole.ensures)
 
 pub returns-then-at-s : goal.returns-then-at-s
-returns-then-at-s c = ways.whole_after _ _ _ _ c.in_ok-tree.ensures c.if-at-s.true
+returns-then-at-s c = ways.whole_after _ _ _ _ c.in_ok-whole.ensures c.if-at-s.true
 
 pub returns : goal.returns
-returns c = ways.whole_read _ _ _ _ c.in_ok-tree.ensures c.if-at-s.false
+returns c = ways.whole_read _ _ _ _ c.in_ok-whole.ensures c.if-at-s.false
