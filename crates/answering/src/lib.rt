@@ -5,14 +5,15 @@
 ghost use Rattle.nodes.specs.Memory.{node_at};
 ghost use Rattle.answering.specs.Answered.{Answers};
 
-use condition::{QUESTION_ROOM, Whole};
+use condition::QUESTION_ROOM;
 use nodes::Node;
+use settling::Found;
 
 // Question one about end `at`, counted from 0, of the tree laid from node 0; or (second) question two.
-pub fn answer(ns: &[Node], at: usize, second: bool, numbers: &mut [Whole]) -> Option<u32>
-    ensures { Answers (node_at ns.now) at second numbers.old result }
+pub fn answer(ns: &[Node], at: usize, second: bool) -> Option<Found>
+    ensures { Answers (node_at ns.now) at second result }
 {
     let mut question = [Node::Plain(false); QUESTION_ROOM];
     asking::ask(ns, at, !second, &mut question);
-    settling::find(&question, numbers)
+    settling::find(&question)
 }

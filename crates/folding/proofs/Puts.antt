@@ -20,7 +20,7 @@ use Rattle.nodes.proofs.Memory.{put_here, put_other}
 use Rattle.nodes.proofs.Laws.{is_all_join_of, tell, move, move_all}
 use Rattle.folding.specs.declared.Cut.{Cut}
 use Rattle.folding.specs.declared.Kid.{Kid}
-use Rattle.folding.specs.declared.Kept.{Kept}
+use Rattle.folding.specs.declared.Kids.{Kids}
 use Rattle.folding.specs.Parts.{past, first_cut, end_or, KidIs, Leaves, EndRight, ShutRight}
 
 pub constant_put : (o : List Node) (b : Bool) → 1 ≤ length o →
@@ -53,7 +53,7 @@ unit_is true = refl
 unit_is false = refl
 
 -- one of the children decides
-pub shut_decided : (every : Bool) (kept : Option Kept) (n o : ℕ → Node) (r : Kid) → kept ≡ None → KidIs o (plain (not every)) r →
+pub shut_decided : (every : Bool) (kept : Option Kids) (n o : ℕ → Node) (r : Kid) → kept ≡ None → KidIs o (plain (not every)) r →
     ShutRight every kept n o r
 unfolding nodes
 shut_decided every kept n o r e k =
@@ -63,7 +63,7 @@ shut_decided every kept n o r e k =
     by decided h = rw (unit_is every) k
     by (these us) h = absurd h
 
-module _ (every : Bool) (kept : Option Kept) (left : Kept) (is : kept ≡ Some left) where
+module _ (every : Bool) (kept : Option Kids) (left : Kids) (is : kept ≡ Some left) where
   pub shut_none : (n o : ℕ → Node) (r : Kid) → left.count ≡ 0 → KidIs o (plain every) r → ShutRight every kept n o r
   unfolding nodes
   shut_none n o r z k = rw is (record { small = omega (arith, k.sized); is = by })

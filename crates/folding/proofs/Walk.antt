@@ -17,7 +17,7 @@ use Rattle.nodes.specs.Laid.{join_of, flag_end, bound_end, EndIs, nodes, nodes_a
 use Rattle.nodes.proofs.Laws.{sized, at_plain, at_flag, at_bound, at_join, at_more, move, move_all}
 use Rattle.folding.specs.declared.Cut.{Cut}
 use Rattle.folding.specs.declared.Kid.{Kid}
-use Rattle.folding.specs.declared.Kept.{Kept}
+use Rattle.folding.specs.declared.Kids.{Kids}
 use Rattle.folding.specs.Folded.{Folded}
 use Rattle.folding.specs.Parts.{past, first_cut, end_or, cut, cut_all, constant_of, KidIs, Leaves, size_kept, count_kept}
 use Rattle.folding.specs.Parts.{EndRight, ShutRight, NodeRight, ChildrenRight}
@@ -59,7 +59,7 @@ module _ (n : ℕ → Node) (i left : ℕ) (x : Option Cut) where
       end_folded y o r _ (bound_end so u v w) refl (λ t l. at_bound n i t so u v w q l) some E
 
   -- the children stand after the first node of the output
-  pub join_folded : (y : Option Cut) (every : Bool) (k s : ℕ) (o₀ o₁ o : ℕ → Node) (kept : Option Kept) (r : Kid) →
+  pub join_folded : (y : Option Cut) (every : Bool) (k s : ℕ) (o₀ o₁ o : ℕ → Node) (kept : Option Kids) (r : Kid) →
       n i ≡ node.Join every k s → 1 ≤ left →
       ChildrenRight n (i + 1) (left - 1) every k x y o₀ kept → ((z : ℕ) → z < left - 1 → o₁ (1 + z) ≡ o₀ z) → ShutRight every kept o₁ o r →
       NodeRight n i left x y o r
@@ -74,7 +74,7 @@ module _ (n : ℕ → Node) (i left : ℕ) (x : Option Cut) where
         rw p.tree (S.is rest (shifted rest kept K.small found.0), found.1);
   }
     where
-      shifted : (l : Left) (kids : Option Kept) → size_kept kids ≤ left - 1 → Leaves l o₀ 0 kids → Leaves l o₁ 1 kids
+      shifted : (l : Left) (kids : Option Kids) → size_kept kids ≤ left - 1 → Leaves l o₀ 0 kids → Leaves l o₁ 1 kids
       shifted decided None w h = tt
       shifted decided (Some q) w h = absurd h
       shifted (these us) None w h = absurd h
@@ -136,7 +136,7 @@ module _ (n : ℕ → Node) (i left : ℕ) (every : Bool) (k : ℕ) (x : Option 
   -- the first child is folded, then the others
   module _ (some : ¬ (k ≡ 0)) (s : ℕ) (first : s ≡ size_of (n i)) (fits : s ≤ left) (one : 1 ≤ s)
       (y : Option Cut) (o₁ : ℕ → Node) (r₁ : Kid) (F : NodeRight n i s x y o₁ r₁)
-      (z : Option Cut) (o₂ : ℕ → Node) (r₂ : Option Kept) (R : ChildrenRight n (i + s) (left - s) every (k - 1) y z o₂ r₂) where
+      (z : Option Cut) (o₂ : ℕ → Node) (r₂ : Option Kids) (R : ChildrenRight n (i + s) (left - s) every (k - 1) y z o₂ r₂) where
     record Both (ts : Forest) : Type 0 where
       u : Tree
       l : Left
@@ -197,7 +197,7 @@ module _ (n : ℕ → Node) (i left : ℕ) (every : Bool) (k : ℕ) (x : Option 
     }
 
     -- the child stands as it was written, and the others after it
-    pub child_kept : (o : ℕ → Node) (c : Kept) → r₂ ≡ Some c → r₁.constant ≡ None → ((v : ℕ) → v < r₁.size → o v ≡ o₁ v) →
+    pub child_kept : (o : ℕ → Node) (c : Kids) → r₂ ≡ Some c → r₁.constant ≡ None → ((v : ℕ) → v < r₁.size → o v ≡ o₁ v) →
         ((v : ℕ) → v < c.size → o (r₁.size + v) ≡ o₂ v) →
         ChildrenRight n i left every k x z o (Some (record { count = c.count + 1; size = r₁.size + c.size }))
     unfolding Laid nodes

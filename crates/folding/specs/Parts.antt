@@ -6,7 +6,7 @@ use Rattle.nodes.specs.declared.Node.{Node}
 use Rattle.nodes.specs.Laid.{join_of, EndIs, nodes, nodes_all, Laid, LaidAll}
 use Rattle.folding.specs.declared.Cut.{Cut}
 use Rattle.folding.specs.declared.Kid.{Kid}
-use Rattle.folding.specs.declared.Kept.{Kept}
+use Rattle.folding.specs.declared.Kids.{Kids}
 
 -- the cut as it goes from child to child: counted from the end after k ends, or past them
 abbrev pub past : ℕ → Option Cut → Option Cut
@@ -48,23 +48,23 @@ abbrev pub Headed : Forest → Type 0
 Headed none = Unit {0}
 Headed (more t ts) = constant_of t ≡ None
 
-pub record These (o : ℕ → Node) (j : ℕ) (us : Forest) (r : Kept) : Type 0 where
+pub record These (o : ℕ → Node) (j : ℕ) (us : Forest) (r : Kids) : Type 0 where
   pub laid : LaidAll us o j
   pub sized : r.size ≡ nodes_all us
   pub counted : r.count ≡ count us
   pub headed : Headed us
 
-abbrev pub Leaves : Left → (ℕ → Node) → ℕ → Option Kept → Type 0
+abbrev pub Leaves : Left → (ℕ → Node) → ℕ → Option Kids → Type 0
 Leaves decided o j None = Unit {0}
 Leaves decided o j (Some r) = ⊥
 Leaves (these us) o j None = ⊥
 Leaves (these us) o j (Some r) = These o j us r
 
-abbrev pub size_kept : Option Kept → ℕ
+abbrev pub size_kept : Option Kids → ℕ
 size_kept None = 0
 size_kept (Some r) = r.size
 
-abbrev pub count_kept : Option Kept → ℕ
+abbrev pub count_kept : Option Kids → ℕ
 count_kept None = 0
 count_kept (Some r) = r.count
 
@@ -75,7 +75,7 @@ pub record EndRight (n : Node) (x y : Option Cut) (o : ℕ → Node) (r : Kid) :
   pub is : (e : End) → EndIs e n → KidIs o (end_or e (first_cut x)) r
 
 -- of an `and` (every) or an `or`
-pub record ShutRight (every : Bool) (kept : Option Kept) (o₀ o : ℕ → Node) (r : Kid) : Type 0 where
+pub record ShutRight (every : Bool) (kept : Option Kids) (o₀ o : ℕ → Node) (r : Kid) : Type 0 where
   pub small : r.size ≤ size_kept kept + 1
   pub is : (l : Left) → Leaves l o₀ 1 kept → KidIs o (close (join_of every) l) r
 
@@ -83,7 +83,7 @@ pub record NodeRight (n : ℕ → Node) (i left : ℕ) (x y : Option Cut) (o : �
   pub small : r.size ≤ left
   pub is : (t : Tree) → Laid t n i → nodes t ≤ left → KidIs o (fold (cut t x)) r × (y ≡ past (live t) x)
 
-pub record ChildrenRight (n : ℕ → Node) (i left : ℕ) (every : Bool) (k : ℕ) (x y : Option Cut) (o : ℕ → Node) (r : Option Kept) : Type 0 where
+pub record ChildrenRight (n : ℕ → Node) (i left : ℕ) (every : Bool) (k : ℕ) (x y : Option Cut) (o : ℕ → Node) (r : Option Kids) : Type 0 where
   pub small : size_kept r ≤ left
   pub few : count_kept r ≤ left
   pub is : (ts : Forest) → LaidAll ts n i → count ts ≡ k → nodes_all ts ≤ left →

@@ -32,7 +32,7 @@ struct Kid {
 
 // The children that are left of those folded: how many, and their nodes.
 #[derive(Clone, Copy)]
-struct Kept {
+struct Kids {
     count: u32,
     size: usize,
 }
@@ -75,7 +75,7 @@ fn end(n: Node, cut: &mut Option<Cut>, out: &mut [Node]) -> Kid
 
 // A connective whose children that are left stand after node 0, or of which one decides it: a constant, the one child left, or the
 // connective of those left.
-fn shut(all: bool, kept: Option<Kept>, out: &mut [Node]) -> Kid
+fn shut(all: bool, kept: Option<Kids>, out: &mut [Node]) -> Kid
     requires { (size_kept kept < length out.old) × (size_kept kept ≤ tree_room) }
     ensures { ShutRight all kept (node_at out.old) (node_at out.new) result }
 {
@@ -126,19 +126,19 @@ fn children(
     k: u32,
     cut: &mut Option<Cut>,
     out: &mut [Node],
-) -> Option<Kept>
+) -> Option<Kids>
     requires { (i + left ≤ tree_room) × (left ≤ length out.old) }
     ensures { ChildrenRight (node_at ns.now) i left all k cut.old cut.new (node_at out.new) result }
 {
     let s = size_at(ns, i);
     if k == 0 || left < s {
-        return Some(Kept { count: 0, size: 0 });
+        return Some(Kids { count: 0, size: 0 });
     }
     let first = node(ns, i, s, cut, out);
     match first.constant {
         None => {
             let others = children(ns, i + s, left - s, all, k - 1, cut, &mut out[first.size..])?;
-            Some(Kept {
+            Some(Kids {
                 count: others.count + 1,
                 size: first.size + others.size,
             })

@@ -7,9 +7,10 @@ ghost use Rattle.std.specs.Prelude.{◌≡◌, ◌*◌, ◌≤◌, ◌<◌, leng
 ghost use Rattle.nodes.specs.Memory.{node_at};
 ghost use Rattle.keeping.specs.Kept.{questions, Notes, Learns, Replies};
 
-use condition::{ASSIGNED, QUESTION_ROOM, Whole};
+use condition::{ASSIGNED, QUESTION_ROOM};
 use judging::Assignment;
 use nodes::Node;
+use settling::Found;
 use std::marker::Model;
 
 // So many assignments are kept at most; one more takes the last one's place.
@@ -17,13 +18,6 @@ const KEPT: usize = 32;
 
 // Two questions about each end, and a tree has no more ends than nodes.
 const QUESTIONS: usize = 2 * QUESTION_ROOM;
-
-// An assignment that a search found: its boolean bits and its numbers.
-#[derive(Clone, Copy)]
-struct Found {
-    flags: u32,
-    numbers: [Whole; ASSIGNED],
-}
 
 // The first `many` of `found` are kept, and the tree has been walked under the first `tried` of these. `known` says which questions about
 // it are known to be answered no, which is all that contracts see.
@@ -127,12 +121,11 @@ impl Kept {
         if known[q] {
             return false;
         }
-        let next = &mut found[*many];
-        let Some(flags) = answering::answer(ns, q / 2, q % 2 == 1, &mut next.numbers) else {
+        let Some(next) = answering::answer(ns, q / 2, q % 2 == 1) else {
             return true;
         };
-        next.flags = flags;
-        learn(ns, next, known);
+        learn(ns, &next, known);
+        found[*many] = next;
         *many = (*many + 1).min(KEPT - 1);
         *tried = *many;
         false

@@ -24,9 +24,9 @@ use Rattle.nodes.specs.Memory.{count_of, size_of}
 use Rattle.nodes.specs.Laid.{nodes, nodes_all, Laid, LaidAll}
 use Rattle.nodes.proofs.Laws.{some_node, sized, counted, at_none, at_more}
 use Rattle.settling.specs.declared.settled.Settled.{Settled}
-use Rattle.settling.specs.declared.settled.Found.{Found}
+use Rattle.settling.specs.declared.Found.{Found}
 use Rattle.settling.specs.Settled.{Agrees, Clear, Stands, Waits, owed, bulk, Work, Done, Settles}
-use Rattle.settling.specs.Settled.{Bits, Shows, Answers, Chosen, Guesses, Attempts, Finds}
+use Rattle.settling.specs.Settled.{Bits, Shows, Answers, Chosen, Guesses, Attempts, Right, Finds}
 use Rattle.settling.proofs.Forests.{nothing_left}
 use Rattle.settling.proofs.Taking.{kept}
 
@@ -61,7 +61,7 @@ given_agrees bits numbers b z h = record {
 
 -- nothing waits
 pub guess_done : (n : ℕ → Node) (s : Settled) (left : ℕ) → s.many ≡ 0 → length s.flags ≡ booleans → (bits : ℕ) (numbers : List ℤ) →
-    Bits s.flags bits → Shows s.table numbers → Guesses n s left (Some (record { bits = bits; numbers = numbers }))
+    Bits s.flags bits → Shows s.table numbers → Guesses n s left (Some (record { flags = bits; numbers = numbers }))
 unfolding Waits owed holds
 guess_done n s left z size bits numbers h shows os w few time = by os w
   where
@@ -250,11 +250,10 @@ module _ (n : ℕ → Node) (from to : ℕ) (s : Settled) (left : ℕ) (copy : S
 
 -- ---- find
 
-pub find_none : (n : ℕ → Node) (numbers : List ℤ) → (length numbers ≡ last_number → size_of (n 0) ≤ question_room → ⊥) →
-    Finds n numbers None numbers
-find_none n numbers h = record { kept = λ e. refl; right = λ z u l few f. absurd (h z (omega (arith, sized u n 0 l))) }
+pub find_none : (n : ℕ → Node) → (size_of (n 0) ≤ question_room → ⊥) → Finds n None
+find_none n h = record { right = λ u l few f. absurd (h (omega (arith, sized u n 0 l))) }
 
-module _ (n : ℕ → Node) (numbers : List ℤ) (s : Settled) (clear : Clear s) where
+module _ (n : ℕ → Node) (s : Settled) (clear : Clear s) where
   -- the whole tree, nothing settled and nothing waiting
   whole : (u : Tree) → Laid u n 0 → nodes u ≤ question_room → Named u → Work n 0 (more u none) s.ors s.many []
   unfolding bulk nodes Waits Laid Named
@@ -278,10 +277,9 @@ module _ (n : ℕ → Node) (numbers : List ℤ) (s : Settled) (clear : Clear s)
       )
 
   module _ (size : ℕ) (is : size ≡ size_of (n 0)) (s' : Settled) where
-    pub find_stopped : Settles n 0 size s false s' → Finds n numbers None numbers
+    pub find_stopped : Settles n 0 size s false s' → Finds n None
     find_stopped h = record {
-      kept = λ e. refl;
-      right = λ z u l few f sat.
+      right = λ u l few f sat.
           let d = done_by u f sat in
           h.stops refl (more u none) [] (whole u l few f) (end u size l is) d.0 d.1;
     }
@@ -300,17 +298,12 @@ module _ (n : ℕ → Node) (numbers : List ℤ) (s : Settled) (clear : Clear s)
         r
         (g q.os' q.work.waits (omega (arith, q.work.few)) (omega (arith, q.work.few)))
 
-    pub find_failed : Settles n 0 size s true s' → Guesses n s' question_room None → Finds n numbers None numbers
-    find_failed h g = record {
-      kept = λ e. refl;
-      right = λ z u l few f sat. let d = done_by u f sat in guessed h None g u l few f d.0 d.1;
-    }
-
-    pub find_found : Settles n 0 size s true s' → (f : Found) → Guesses n s' question_room (Some f) → Finds n numbers (Some f.bits) f.numbers
+    pub find_guessed : Settles n 0 size s true s' → (r : Option Found) → Guesses n s' question_room r → Finds n r
     unfolding holds
-    find_found h f g = record {
-      kept = λ e. absurd (none-some f.bits (sym e));
-      right = λ z u l few named.
-          let d = guessed h (Some f) g u l few named in
-          ((and_parts (holds u (given f.bits f.numbers)) true d.each).0, (clear.numbers.meets (given f.bits f.numbers)).0 d.knows.numbers);
-    }
+    find_guessed h r g = record { right = λ u l few f. right u f r (guessed h r g u l few f) }
+      where
+        right : (u : Tree) → Named u → (r : Option Found) → Answers (Done s (more u none) []) r → Right u r
+        right u f (Some found) d =
+            let a = given found.flags found.numbers in
+            ((and_parts (holds u a) true d.each).0, (clear.numbers.meets a).0 d.knows.numbers)
+        right u f None d = λ sat. let e = done_by u f sat in d e.0 e.1

@@ -9,7 +9,7 @@ use Rattle.differences.specs.Table.{Meets, Starts, tightest}
 use Rattle.nodes.specs.declared.Node.{Node}
 use Rattle.nodes.specs.Laid.{nodes, nodes_all, Laid, LaidAll}
 use Rattle.settling.specs.declared.settled.Settled.{Settled}
-use Rattle.settling.specs.declared.settled.Found.{Found}
+use Rattle.settling.specs.declared.Found.{Found}
 
 -- ---- what is settled
 
@@ -119,7 +119,7 @@ pub record Shows (t : List ℕ) (numbers : List ℤ) : Type 0 where
 
 -- found: the assignment has P; nothing: none has
 abbrev pub Answers : (Assignment → Type 0) → Option Found → Type 0
-Answers P (Some f) = P (given f.bits f.numbers)
+Answers P (Some f) = P (given f.flags f.numbers)
 Answers P None = (a : Assignment) → P a → ⊥
 
 -- a agrees with what is settled and makes one of the trees us true, and all the `or`s os
@@ -140,10 +140,9 @@ Attempts n from to s left r =
 
 -- ---- the search: over all whole numbers
 
-abbrev pub Right : Tree → Option ℕ → List ℤ → Type 0
-Right u (Some bits) numbers = (holds u (given bits numbers) ≡ true) × InRange (given bits numbers)
-Right u None numbers = Satisfiable u → ⊥
+abbrev pub Right : Tree → Option Found → Type 0
+Right u (Some f) = (holds u (given f.flags f.numbers) ≡ true) × InRange (given f.flags f.numbers)
+Right u None = Satisfiable u → ⊥
 
-pub record Finds (n : ℕ → Node) (numbers : List ℤ) (r : Option ℕ) (numbers' : List ℤ) : Type 0 where
-  pub kept : r ≡ None → numbers' ≡ numbers
-  pub right : length numbers ≡ last_number → (u : Tree) → Laid u n 0 → nodes u ≤ question_room → Named u → Right u r numbers'
+pub record Finds (n : ℕ → Node) (r : Option Found) : Type 0 where
+  pub right : (u : Tree) → Laid u n 0 → nodes u ≤ question_room → Named u → Right u r

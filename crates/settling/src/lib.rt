@@ -10,19 +10,24 @@ use settled::Settled;
 
 mod settled;
 
-// Whether some assignment makes the tree laid from node 0 true; if so, its numbers are written and its boolean bits returned.
-pub fn find(ns: &[Node], numbers: &mut [Whole]) -> Option<u32>
-    ensures { Finds (node_at ns.now) numbers.old result numbers.new }
+// An assignment that was found: its boolean bits, and its numbers in the order of their names.
+#[derive(Clone, Copy)]
+pub struct Found {
+    pub flags: u32,
+    pub numbers: [Whole; ASSIGNED],
+}
+
+// An assignment that makes the tree laid from node 0 true, if there is one.
+pub fn find(ns: &[Node]) -> Option<Found>
+    ensures { Finds (node_at ns.now) result }
 {
     let n = size_at(ns, 0);
-    if numbers.len() != ASSIGNED || QUESTION_ROOM < n {
+    if QUESTION_ROOM < n {
         return None;
     }
     let mut known = Settled::nothing();
     if !known.settle(ns, 0, n) {
         return None;
     }
-    let found = known.guess(ns, QUESTION_ROOM)?;
-    numbers.copy_from_slice(&found.numbers);
-    Some(found.bits)
+    known.guess(ns, QUESTION_ROOM)
 }

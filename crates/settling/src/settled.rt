@@ -3,6 +3,7 @@ ghost use Rattle.std.specs.Prelude.{◌≤◌};
 ghost use Rattle.condition.specs.Limits.{question_room};
 ghost use Rattle.differences.specs.Table.{Closed};
 
+use crate::Found;
 use condition::{
     ASSIGNED, BOOLEANS, LARGEST_BOUND, LAST_BOOLEAN, LAST_NUMBER, QUESTION_ROOM, Whole,
 };
@@ -19,13 +20,6 @@ pub struct Settled {
     many: usize,
     ghost closed: { Closed table },
     ghost few: { many ≤ question_room },
-}
-
-// An assignment that was found.
-#[derive(Clone, Copy)]
-pub struct Found {
-    pub bits: u32,
-    pub numbers: [Whole; ASSIGNED],
 }
 
 impl Settled {
@@ -146,7 +140,7 @@ impl Settled {
     {
         if self.many == 0 {
             return Some(Found {
-                bits: self.bits(),
+                flags: self.bits(),
                 numbers: self.numbers(),
             });
         }

@@ -18,8 +18,8 @@ use Rattle.nodes.specs.declared.Node.{Node}
 use Rattle.nodes.specs.Memory.{node_at}
 use Rattle.nodes.specs.Laid.{Laid, nodes}
 use Rattle.reading.specs.Parts.{Holds}
+use Rattle.settling.specs.declared.Found.{Found}
 use Rattle.settling.specs.Settled as settled
-use Rattle.std.specs.Option.{ok_or}
 use Rattle.std.specs.Prelude.{Option, Some, None, Result, Ok, Err, IsErr, IsErrAnd}
 use Rattle.travelring.specs.declared.JudgeRefusal.{JudgeRefusal}
 use Rattle.travelring.specs.declared.JudgeRefusal.TheVariants as judge_refusal
@@ -79,22 +79,20 @@ module _ (s : List ℕ) (numbers : List ℤ) where
         carried (refusal n p) h = record { told = simp (h.0, h.1); kept = refl }
 
     -- the tree read is within the limits, so the search speaks of it
-    module _ (bytes : (i : ℕ) → get_or s i 0 < 256) (ns : List Node) (e : x ≡ Ok ns) (v : Option ℕ) (numbers' : List ℤ)
-        (f : settled.Finds (node_at ns) numbers v numbers') where
-      settles : (r : Result ℕ FindRefusal) → ((t : Tree) → settled.Right t v numbers' → FindsRead (tree t) numbers r numbers') →
-          Finds s numbers r numbers'
-      settles r answered = as_read r numbers' (told (read s) refl (subst (λ z. Holds z (read s)) e held))
+    module _ (bytes : (i : ℕ) → get_or s i 0 < 256) (ns : List Node) (e : x ≡ Ok ns) where
+      settles : (v : Option Found) → settled.Finds (node_at ns) v → (r : Result ℕ FindRefusal) (numbers' : List ℤ) →
+          ((t : Tree) → settled.Right t v → FindsRead (tree t) numbers r numbers') → Finds s numbers r numbers'
+      settles v f r numbers' answered = as_read r numbers' (told (read s) refl (subst (λ z. Holds z (read s)) e held))
         where
           told : (y : Read) → read s ≡ y → Holds (Ok ns) y → FindsRead y numbers r numbers'
           told (tree t) same h =
               answered t
-              (f.right fit t h.0 (omega (arith, h.1)) (formed_named t (read_written s t (octets s bytes) same).1.formed))
+              (f.right t h.0 (omega (arith, h.1)) (formed_named t (read_written s t (octets s bytes) same).1.formed))
           told (refusal m p) same h = absurd h
 
-      shown : length numbers' ≡ length numbers → (w : Option ℕ) → v ≡ w → Finds s numbers (ok_or w find_refusal.Nothing) numbers'
-      shown long (Some bits) q =
-          settles (Ok bits) (λ t h. let g = subst (λ z. settled.Right t z numbers') q h in (g.0, g.1, long ∙ fit))
-      shown long None q = settles (Err find_refusal.Nothing) (λ t h. (subst (λ z. settled.Right t z numbers') q h, f.kept q))
+      pub find_shows : (found : Found) → settled.Finds (node_at ns) (Some found) → length found.numbers ≡ last_number →
+          Finds s numbers (Ok found.flags) found.numbers
+      find_shows found f long = settles (Some found) f (Ok found.flags) found.numbers (λ t h. (h.0, h.1, long))
 
-      pub find_answers : length numbers' ≡ length numbers → Finds s numbers (ok_or v find_refusal.Nothing) numbers'
-      find_answers long = shown long v refl
+      pub find_shows_none : settled.Finds (node_at ns) None → Finds s numbers (Err find_refusal.Nothing) numbers
+      find_shows_none f = settles None f (Err find_refusal.Nothing) numbers (λ t h. (h, refl))

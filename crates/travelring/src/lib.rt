@@ -173,7 +173,11 @@ pub fn find(tree: &[u8], numbers: &mut [Whole]) -> Result<u32, FindRefusal>
         return Err(FindRefusal::Unfit);
     }
     let ns = reading::read(tree)?;
-    settling::find(&ns, numbers).ok_or(FindRefusal::Nothing)
+    let Some(found) = settling::find(&ns) else {
+        return Err(FindRefusal::Nothing);
+    };
+    numbers.copy_from_slice(&found.numbers);
+    Ok(found.flags)
 }
 
 // Trims the condition written in tree with at most `ration` questions: the result is written from the output's start.

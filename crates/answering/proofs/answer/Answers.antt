@@ -5,4 +5,4 @@ use Rattle.answering.proofs.answer.Goals as goal
 
 pub returns : goal.returns
 returns c =
-    answers _ _ _ _ _ _ _ _ _ refl c.ask.ensures c.find.ensures
+    answers _ _ _ _ _ _ _ refl c.ask.ensures c.find.ensures

@@ -1,4 +1,5 @@
 -- `travelring::find` meets its contract: numbers of another length, a refusal of the reading, or what the search answers of the tree.
+use native.Mathlib.Omega.{arith}
 use Rattle.travelring.proofs.Ways as ways
 use Rattle.travelring.proofs.find.Goals as goal
 
@@ -7,8 +8,13 @@ returns-in_err-ns c =
     rw (ways.passed _ _ c.from_residual.ensures)
     (ways.find_refuses _ _ c.if-numbers-ne-ASSIGNED.false _ c.read.ensures _ c.in_err-ns.was)
 
+pub returns-in_default : goal.returns-in_default
+returns-in_default c =
+    ways.find_shows_none _ _ c.if-numbers-ne-ASSIGNED.false _ c.read.ensures (λ i. (c.type_inv.tree i).fits) _ c.in_ok-ns.was
+    c.in_default.ensures
+
 pub returns : goal.returns
 returns c =
-    rw c.ok_or.ensures.value
-    (ways.find_answers _ _ c.if-numbers-ne-ASSIGNED.false _ c.read.ensures (λ i. (c.type_inv.tree i).fits) _ c.in_ok-ns.was
-    _ _ c.find.ensures c.find.auto.numbers)
+    rw c.copy_from_slice.ensures.after
+    (ways.find_shows _ _ c.if-numbers-ne-ASSIGNED.false _ c.read.ensures (λ i. (c.type_inv.tree i).fits) _ c.in_ok-ns.was
+    _ c.in-Some.ensures (omega arith))
