@@ -61,7 +61,7 @@ pub struct Cursor {
 }
 
 // What a step came to: the number read and the next cursor, or why there is none.
-pub type Step = Result<(Numeral, Cursor), Refusal>;
+type Step = Result<(Numeral, Cursor), Refusal>;
 
 // A last byte 00 of a longer number.
 fn padded(b: Numeral, first: usize, at: usize) -> bool
