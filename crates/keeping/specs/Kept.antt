@@ -18,7 +18,7 @@ pub record Known (t : Tree) (known : List Bool) : Type 0 where
 
 -- ---- what the code promises
 
--- so many assignments are kept, and of so many questions it is known whether they are answered no: two about each end, of which a tree has
+-- there is room for so many assignments, and of so many questions it is known whether they are answered no: two about each end, of which a tree has
 -- no more than nodes
 abbrev pub kept : ℕ
 kept = 32

@@ -13,7 +13,7 @@ use nodes::Node;
 use settling::Found;
 use std::marker::Model;
 
-// So many assignments are kept at most; one more takes the last one's place.
+// Room for so many assignments. Those in all places but the last are kept; the last is taken anew by each one more.
 const KEPT: usize = 32;
 
 // Two questions about each end, and a tree has no more ends than nodes.

@@ -1,7 +1,7 @@
 -- What each way out of `judge` and of `find` shows: numbers of another length are 11; else what reading answered, and with a tree its
 -- value, or what the search answered of it.
 use Prim.Native.Nat.{ℕ, ◌≤◌, ◌<◌}
-use mathlib.Core.Path.{◌≡◌, refl, subst, ap, ◌∙◌}
+use mathlib.Core.Path.{◌≡◌, refl, subst, ap}
 use mathlib.Core.List.{List}
 use mathlib.Core.Bool.{Bool}
 use native.Mathlib.Omega.{arith}
