@@ -1,35 +1,13 @@
-// Finds the parts of a line.
-ghost use Rattle.std.specs.Prelude.{◌≤◌, length};
+// Cuts a text in two.
+ghost use Rattle.std.specs.Prelude.{◌≡◌, ◌≢◌, [], ◌∷◌, ◌++◌, ◌⊎◌, All};
 
-// Where c first stands from a place on; the text's end if nowhere.
-pub fn find(text: &[u8], start: usize, c: u8) -> usize
-    requires { start ≤ length text.now }
-    ensures { (start ≤ result) × (result ≤ length text.now) }
+// What stands before the first c, and what after it; where there is none, all and nothing. (std's `split_once` is of text alone.)
+pub fn cut(text: &[u8], c: u8) -> (&[u8], &[u8])
+    ensures first { All (λ d. d ≢ c) result.0.now }
+    ensures parts { (text.now ≡ result.0.now ++ c ∷ result.1.now) ⊎ ((text.now ≡ result.0.now) × (result.1.now ≡ [])) }
 {
-    for i in start..text.len() {
-        if text[i] == c {
-            return i;
-        }
+    match text.iter().position(|d| *d == c) {
+        Some(at) => (&text[..at], &text[at + 1..]),
+        None => (text, &[]),
     }
-    text.len()
-}
-
-// Where the word after the next space begins; the text's end if there is no space.
-pub fn word_after(text: &[u8], start: usize) -> usize
-    requires { start ≤ length text.now }
-    ensures { result ≤ length text.now }
-{
-    let space = find(text, start, b' ');
-    if space < text.len() {
-        return space + 1;
-    }
-    space
-}
-
-// The character at a place; past the end a newline, which no line has.
-pub fn character(text: &[u8], at: usize) -> u8 {
-    if at < text.len() {
-        return text[at];
-    }
-    b'\n'
 }

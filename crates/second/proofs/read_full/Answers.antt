@@ -1,20 +1,16 @@
 -- A read puts its bytes after those that were there, and leaves these as they were.
-use Rattle.std.proofs.Common.{◌≡◌, ℕ, ◌+◌, ◌-◌, ◌≤◌, List, ◌++◌, rules, length, take, drop, subst, le_refl, drop_at, length-take-le}
-use Rattle.std.proofs.lemmas.Slice.{take-put_mid_below}
+use Rattle.std.proofs.Common.{◌≡◌, ℕ, ◌+◌, ◌-◌, ◌≤◌, List, ◌++◌, rules, arith, length, take, subst}
+use Rattle.std.proofs.lemmas.Grind.{common_steps}
+use Rattle.std.proofs.lemmas.List.{take-append-le}
+use Rattle.std.proofs.lemmas.Slice.{overwrites}
+use Rattle.std.proofs.Math.Seq.{take-add}
 use Rattle.std.specs.Io.KnownBytes.{Consumes}
 use Rattle.std.proofs.KnownBytes.{Consumes-trans}
-use borrow.Rule.Slice.PartMut.{put_mid, post_of}
-use lib.Seq.{take-add, take-append-le}
+use borrow.Rule.Slice.PartMut.{put_mid}
 use Rattle.second.proofs.read_full.Goals as goal
 
 take_on : (a k n : ℕ) (xs ys : List ℕ) → a ≤ length xs → n ≤ length ys → take a xs ++ take n ys ≡ take (a + n) (put_mid a k xs ys)
-take_on a k n xs ys within fits =
-    let both = take-add a n (put_mid a k xs ys) in
-    let before = take-put_mid_below a k xs ys a (le_refl a) within in
-    let after : drop a (put_mid a k xs ys) ≡ ys ++ post_of a k xs = drop_at (take a xs) (ys ++ post_of a k xs)
-    a (length-take-le a xs within) in
-    let read = take-append-le n ys (post_of a k xs) fits in
-    cc
+take_on a k n xs ys within fits = grind (arith, common_steps, overwrites, take-add, take-append-le)
 
 pub loop-n-preserved : goal.loop-n-preserved
 loop-n-preserved g c =
