@@ -22,7 +22,7 @@ pub enum Refusal {
 }
 
 impl Refusal {
-    // Its number in document 01's table.
+    // Its number in document 01's table, which C and the programs are told. No `From`: a refusal has another number beside it, its place.
     pub fn number(self) -> u32
         ensures { result ≡ answer_of self }
     {

@@ -79,7 +79,7 @@ fn bound_end(s: &[u8], done: Part, g: Numeral, ns: &mut [Node]) -> Result<Part, 
     Ok(put_end(ns, done, Node::Bound(g == 6, x, y, shift(w)), c3))
 }
 
-// One node and all below it.
+// One node and all below it. Tags stay document 01's numbers, since they become an enum here, once: the node.
 #[cycle(children_node)]
 #[tactic(auto, using(cursor::proofs::Steps::up_to_taken, cursor::proofs::Steps::count_taken))]
 fn node(s: &[u8], done: Part, ns: &mut [Node]) -> Result<Part, Refusal>

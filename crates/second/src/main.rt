@@ -143,7 +143,8 @@ fn check_lines(out: &mut impl Write, text: &[u8]) -> io::Result<()> {
     Ok(())
 }
 
-// Reads until the text is full or the input ends, and says how many bytes were read, as `Read::read` does: the promises are about these.
+// Reads until the text is full or the input ends, and says how many bytes were read, as `Read::read` does: the promises are about these. (No
+// `for`: how many bytes a read brings is for the input to say.)
 fn read_full<R: Read>(input: &mut R, text: &mut [u8]) -> io::Result<usize>
     ensures bound { IfOk result (λ n. n ≤ length text.new) }
     ensures bytes { IfOk result (λ n. Consumes (R.remaining input.old) (R.remaining input.new) (take n text.new)) }

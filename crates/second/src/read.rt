@@ -147,7 +147,7 @@ impl Bytes<'_> {
     }
 }
 
-// A tree of more ends than there may be finds no room.
+// A tree of more ends than there may be finds no room. (No `for`: a tree ends where no end is owed.)
 pub fn read_tree(text: &[u8]) -> Option<Tree> {
     let mut bytes = Bytes { rest: text };
     let mut tree = [Node::Constant(false); MOST_NODES];

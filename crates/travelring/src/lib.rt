@@ -44,7 +44,7 @@ pub struct Trimmed {
     pub bytes: usize,
 }
 
-// An answer by document 01's number and place, and what comes with it.
+// An answer by document 01's number and place, and what comes with it: C and the programs are told it so.
 #[derive(Clone, Copy)]
 pub struct Judgement {
     pub answer: u32,

@@ -5,7 +5,8 @@ ghost use Rattle.std.specs.Io.KnownBytes.{Consumes, IsAtEnd};
 use std::io;
 use std::io::Read;
 
-// Reads until the text is full or the input ends, and says how many bytes were read, as `Read::read` does: the promises are about these.
+// Reads until the text is full or the input ends, and says how many bytes were read, as `Read::read` does: the promises are about these. (No
+// `for`: how many bytes a read brings is for the input to say.)
 pub fn read_full<R: Read>(input: &mut R, text: &mut [u8]) -> io::Result<usize>
     ensures bound { IfOk result (λ n. n ≤ length text.new) }
     ensures bytes { IfOk result (λ n. Consumes (R.remaining input.old) (R.remaining input.new) (take n text.new)) }
