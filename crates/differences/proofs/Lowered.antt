@@ -11,7 +11,8 @@ use lib.IntN.{pos, ◌-ℤ◌}
 use lib.ListN.{length}
 use Rattle.condition.specs.Limits.{last_number}
 use Rattle.condition.specs.Meaning.{Assignment, at_most, met}
-use Rattle.differences.specs.Table.{offset, cell, Meets, Closed, Ready, Adds}
+use Rattle.differences.specs.Table.{offset, cell, Meets, Closed, Adds}
+use Rattle.differences.specs.Rows.{Ready}
 use Rattle.differences.proofs.Closed.{held, meets_held, held_meets, upper}
 
 -- t' is t with x - y <= c - offset worked in

@@ -9,8 +9,8 @@ use lib.IntN.{pos, ◌-ℤ◌}
 use lib.ListN.{get_or}
 use mathlib.Core.Bool.{true}
 use Rattle.condition.specs.Meaning.{at_most}
-use Rattle.differences.specs.Table.{numbers, offset, cell, Ready, Adds}
-use Rattle.differences.specs.Rows.{Part, lowered, Lowers}
+use Rattle.differences.specs.Table.{numbers, offset, cell, Adds}
+use Rattle.differences.specs.Rows.{Ready, Part, lowered, Lowers}
 use Rattle.differences.proofs.Closed.{upper}
 use Rattle.differences.proofs.Lowered.{stays, way_least, adds}
 use Rattle.differences.proofs.Parts.{row_of, column_of, place_of_lem, part_kept, part_on}

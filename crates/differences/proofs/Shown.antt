@@ -18,12 +18,12 @@ mag_size : (z : ℤ) → mag z ≤ nat_abs z
 mag_size (pos n) = omega arith
 mag_size (negsuc n) = omega arith
 
-module _ {t : List ℕ} (i : ℕ) (p : Closed t × (i ≤ last_number)) where
+module _ {t : List ℕ} (h : Closed t) (i : ℕ) (few : i ≤ last_number) where
   entry_value : (flags : ℕ → Bool) → value (tightest flags t) i ≡ entry t i 0
-  entry_value flags = tightest_value p.0 flags i p.1
+  entry_value flags = tightest_value h flags i few
 
   entry_range : nat_abs (entry t i 0) ≤ farthest
-  entry_range = rw (entry_value (λ q. false)) at (tightest_range p.0 (λ q. false) i p.1)
+  entry_range = rw (entry_value (λ q. false)) at (tightest_range h (λ q. false) i few)
 
   -- the code reads the cell at i * 16 + 0 as the one at i * 16
   pub shown : (z : ℤ) → z ≡ pos (get_or t (i * numbers) 0) -ℤ pos offset → Shown t i z

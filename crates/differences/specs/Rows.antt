@@ -1,7 +1,13 @@
 -- What the functions inside ask of and promise each other: cells between two places, lowered or made, the others as they were.
 use Rattle.std.specs.Prelude.{ℕ, ◌+◌, ◌-◌, ◌*◌, ◌%◌, ◌≤◌, ◌<◌, min, ◌≡◌, List, length, get_or}
 use Rattle.condition.specs.Limits.{last_number}
-use Rattle.differences.specs.Table.{numbers, cells, offset, cell}
+use Rattle.differences.specs.Table.{numbers, cells, offset, cell, Closed}
+
+-- what working in a bound between numbers x and y asks
+pub record Ready (t : List ℕ) (x y : ℕ) : Type 0 where
+  pub closed : Closed t
+  pub left : x ≤ last_number
+  pub right : y ≤ last_number
 
 -- from place `from` up to place `to` the cells are those of f
 pub record Part (from to : ℕ) (f : ℕ → ℕ) (t t' : List ℕ) : Type 0 where

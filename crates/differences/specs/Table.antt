@@ -45,12 +45,6 @@ pub record Starts (t : List ℕ) : Type 0 where
   pub closed : Closed t
   pub meets : (a : Assignment) → Meets t a ↔ InRange a
 
--- what adding a bound between numbers x and y asks
-pub record Ready (t : List ℕ) (x y : ℕ) : Type 0 where
-  pub closed : Closed t
-  pub left : x ≤ last_number
-  pub right : y ≤ last_number
-
 -- What adding the end e to t answers, and the table t' that it leaves: with e worked in, or, if no assignment meets both, t itself
 pub record Adds (t : List ℕ) (e : End) (ok : Bool) (t' : List ℕ) : Type 0 where
   pub closed : Closed t'

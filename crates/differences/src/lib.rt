@@ -6,31 +6,25 @@
 ghost use Rattle.std.specs.Prelude.{◌≡◌, ◌+◌, ◌-◌, ◌*◌, ◌≤◌, ◌<◌, min, pos, ◌-ℤ◌};
 ghost use Rattle.condition.specs.Limits.{last_number, largest_bound};
 ghost use Rattle.condition.specs.Meaning.{at_most, above};
-ghost use Rattle.differences.specs.Table.{numbers, offset, Closed, Starts, Ready, Adds, Shown};
-ghost use Rattle.differences.specs.Rows.{Part, lowered, Lowers};
+ghost use Rattle.differences.specs.Table.{numbers, offset, Closed, Starts, Adds, Shown};
+ghost use Rattle.differences.specs.Rows.{Ready, Part, lowered, Lowers};
 
 use condition::{FARTHEST, LARGEST_BOUND, LAST_NUMBER, Whole};
 
 // An entry. The largest sum on the way to one is six offsets.
-pub type Distance = u32;
+type Distance = u32;
 
 const NUMBERS: usize = LAST_NUMBER as usize + 1;
 
-pub const CELLS: usize = NUMBERS * NUMBERS;
+const CELLS: usize = NUMBERS * NUMBERS;
 
 const OFFSET: Distance = 2 * FARTHEST;
 
-// The table that says only that the numbers are in range: two of them lie as far apart as both may from number 0, which is 0.
-pub fn start() -> [Distance; CELLS]
-    ensures { Starts result }
-{
-    let mut t: [Distance; CELLS] = [OFFSET + 2 * FARTHEST; CELLS];
-    for i in 0..NUMBERS {
-        t[i] = OFFSET + FARTHEST;
-        t[i * NUMBERS] = OFFSET + FARTHEST;
-        t[i * NUMBERS + i] = OFFSET;
-    }
-    t
+// A table whose entries are tightest: no two in a row are tighter than the one from end to end.
+#[derive(Clone, Copy)]
+pub struct Table {
+    distances: [Distance; CELLS],
+    ghost closed: { Closed distances },
 }
 
 // Lowers row i in place to the way round by the new bound, where that is less: `left` is the row's way to y, and row y, which is
@@ -67,27 +61,42 @@ fn work_in(t: &mut [Distance; CELLS], x: usize, y: usize, c: Distance) -> bool
     true
 }
 
-// Adds x - y <= c - LARGEST_BOUND in place: a node keeps its bound so. False: nothing meets the table and this, and the table stays.
-pub fn add(t: &mut [Distance; CELLS], x: usize, y: usize, c: u32) -> bool
-    requires { Ready t.old x y × (c ≤ 2 * largest_bound) }
-    ensures { Adds t.old (at_most x y (pos c -ℤ pos largest_bound)) result t.new }
-{
-    work_in(t, x, y, OFFSET - LARGEST_BOUND + c)
-}
+impl Table {
+    // The table that says only that the numbers are in range: two of them lie as far apart as both may from number 0, which is 0.
+    pub fn start() -> Table
+        ensures { Starts result.distances }
+    {
+        let mut t: [Distance; CELLS] = [OFFSET + 2 * FARTHEST; CELLS];
+        for i in 0..NUMBERS {
+            t[i] = OFFSET + FARTHEST;
+            t[i * NUMBERS] = OFFSET + FARTHEST;
+            t[i * NUMBERS + i] = OFFSET;
+        }
+        Table { distances: t }
+    }
 
-// Adds its negation: over whole numbers y - x <= -c - 1.
-pub fn add_above(t: &mut [Distance; CELLS], x: usize, y: usize, c: u32) -> bool
-    requires { Ready t.old x y × (c ≤ 2 * largest_bound) }
-    ensures { Adds t.old (above x y (pos c -ℤ pos largest_bound)) result t.new }
-{
-    work_in(t, y, x, OFFSET + LARGEST_BOUND - 1 - c)
-}
+    // Adds x - y <= c - LARGEST_BOUND in place: a node keeps its bound so. False: nothing meets the table and this, and the table stays.
+    pub fn add(&mut self, x: usize, y: usize, c: u32) -> bool
+        requires { (x ≤ last_number) × (y ≤ last_number) × (c ≤ 2 * largest_bound) }
+        ensures { Adds self.old.distances (at_most x y (pos c -ℤ pos largest_bound)) result self.new.distances }
+    {
+        work_in(&mut self.distances, x, y, OFFSET - LARGEST_BOUND + c)
+    }
 
-// Number i of the tightest assignment that meets the table.
-pub fn number(t: &[Distance; CELLS], i: usize) -> Whole
-    requires { Closed t.now × (i ≤ last_number) }
-    ensures { Shown t.now i result }
-{
-    let high = t[i * NUMBERS];
-    high as Whole - OFFSET as Whole
+    // Adds its negation: over whole numbers y - x <= -c - 1.
+    pub fn add_above(&mut self, x: usize, y: usize, c: u32) -> bool
+        requires { (x ≤ last_number) × (y ≤ last_number) × (c ≤ 2 * largest_bound) }
+        ensures { Adds self.old.distances (above x y (pos c -ℤ pos largest_bound)) result self.new.distances }
+    {
+        work_in(&mut self.distances, y, x, OFFSET + LARGEST_BOUND - 1 - c)
+    }
+
+    // Number i of the tightest assignment that meets the table.
+    pub fn number(&self, i: usize) -> Whole
+        requires { i ≤ last_number }
+        ensures { Shown self.now.distances i result }
+    {
+        let high = self.distances[i * NUMBERS];
+        high as Whole - OFFSET as Whole
+    }
 }

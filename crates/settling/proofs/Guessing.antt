@@ -61,13 +61,13 @@ given_agrees bits numbers b z h = record {
 
 -- nothing waits
 pub guess_done : (n : ℕ → Node) (s : Settled) (left : ℕ) → s.many ≡ 0 → length s.flags ≡ booleans → (bits : ℕ) (numbers : List ℤ) →
-    Bits s.flags bits → Shows s.table numbers → Guesses n s left (Some (record { flags = bits; numbers = numbers }))
+    Bits s.flags bits → Shows s.table.distances numbers → Guesses n s left (Some (record { flags = bits; numbers = numbers }))
 unfolding Waits owed holds
 guess_done n s left z size bits numbers h shows os w few time = by os w
   where
     by : (os : List Tree) → Waits os n s.ors s.many → Done s none os (given bits numbers)
     by [] w = record {
-      knows = record { flags = given_agrees bits numbers s.flags size h; numbers = given_meets bits numbers s.table s.closed shows };
+      knows = record { flags = given_agrees bits numbers s.flags size h; numbers = given_meets bits numbers s.table.distances s.table.closed shows };
       each = refl;
       owed = refl;
     }

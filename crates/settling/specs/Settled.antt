@@ -19,13 +19,13 @@ pub record Agrees (b : List (Option Bool)) (a : Assignment) : Type 0 where
 -- an assignment agrees with all that is settled
 pub record Knows (s : Settled) (a : Assignment) : Type 0 where
   pub flags : Agrees s.flags a
-  pub numbers : Meets s.table a
+  pub numbers : Meets s.table.distances a
 
 -- nothing is settled but the numbers' range, and nothing waits
 pub record Clear (s : Settled) : Type 0 where
   pub waits : s.many ≡ 0
   pub flags : (p : ℕ) → get_or s.flags p None ≡ None
-  pub numbers : Starts s.table
+  pub numbers : Starts s.table.distances
 
 -- s' is s with the end e settled; ok is false if that can't be
 pub record Learns (s : Settled) (e : End) (ok : Bool) (s' : Settled) : Type 0 where

@@ -1,24 +1,22 @@
 // What is settled, and the `or`s that wait. A guess works on a copy, which is dropped when the guess is withdrawn.
 ghost use Rattle.std.specs.Prelude.{◌≤◌};
 ghost use Rattle.condition.specs.Limits.{question_room};
-ghost use Rattle.differences.specs.Table.{Closed};
 
 use crate::Found;
 use condition::{
     ASSIGNED, BOOLEANS, LARGEST_BOUND, LAST_BOOLEAN, LAST_NUMBER, QUESTION_ROOM, Whole,
 };
-use differences::{CELLS, Distance};
+use differences::Table;
 use nodes::{Node, count_at, node_at, size_at};
 
 #[derive(Clone, Copy)]
 pub struct Settled {
-    table: [Distance; CELLS],
+    table: Table,
     // which way each boolean is settled
     flags: [Option<bool>; BOOLEANS],
     // where the `or`s that wait stand: a stack, which is an array and a count since nothing is allocated
     ors: [u8; QUESTION_ROOM],
     many: usize,
-    ghost closed: { Closed table },
     ghost few: { many ≤ question_room },
 }
 
@@ -33,7 +31,7 @@ impl Settled {
         ensures { Clear result }
     {
         Settled {
-            table: differences::start(),
+            table: Table::start(),
             flags: [None; BOOLEANS],
             ors: [0; QUESTION_ROOM],
             many: 0,
@@ -62,9 +60,9 @@ impl Settled {
             return false;
         }
         if so {
-            differences::add(&mut self.table, x as usize, y as usize, w)
+            self.table.add(x as usize, y as usize, w)
         } else {
-            differences::add_above(&mut self.table, x as usize, y as usize, w)
+            self.table.add_above(x as usize, y as usize, w)
         }
     }
 
@@ -124,11 +122,11 @@ impl Settled {
 
     // The numbers that the table has, in the order of their names.
     fn numbers(&self) -> [Whole; ASSIGNED]
-        ensures { Shows self.now.table result }
+        ensures { Shows self.now.table.distances result }
     {
         let mut numbers = [0; ASSIGNED];
         for (i, number) in numbers.iter_mut().enumerate() {
-            *number = differences::number(&self.table, i + 1);
+            *number = self.table.number(i + 1);
         }
         numbers
     }

@@ -11,4 +11,4 @@ use Rattle.settling.proofs.settled.Settled.numbers.Given as goal
 
 abbrev pub invariant-loop-i : goal.invariant-loop-i
 invariant-loop-i l = (length l.number-items ≡ last_number)
-    × ((x : ℕ) → x < l.i → (f : ℕ → Bool) → get_or l.number-items x (pos 0) ≡ value (tightest f l.self.table) (suc x))
+    × ((x : ℕ) → x < l.i → (f : ℕ → Bool) → get_or l.number-items x (pos 0) ≡ value (tightest f l.self.table.distances) (suc x))

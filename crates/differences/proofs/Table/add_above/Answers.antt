@@ -1,10 +1,10 @@
--- `differences::add_above` meets its contract: the negation is the bound the other way round, less one.
+-- `differences::Table::add_above` meets its contract: the negation is the bound the other way round, less one.
 use Prim.Native.Nat.{◌+◌, ◌-◌}
 use native.Mathlib.Omega.{arith}
 use Rattle.condition.specs.Limits.{largest_bound}
 use Rattle.differences.specs.Table.{offset}
 use Rattle.differences.proofs.Bounds.{adds_negated}
-use Rattle.differences.proofs.add_above.Goals as goal
+use Rattle.differences.proofs.Table.add_above.Goals as goal
 
 pub returns : goal.returns
 returns c =
