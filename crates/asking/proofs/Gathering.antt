@@ -17,12 +17,12 @@ use Rattle.nodes.specs.declared.Node.TheVariants as node
 use Rattle.nodes.specs.Memory.{node_at, size_of}
 use Rattle.nodes.specs.Laid.{join_of, flag_end, bound_end, nodes, nodes_all, Laid, LaidAll}
 use Rattle.nodes.proofs.Memory.{put_here, put_other}
-use Rattle.nodes.proofs.Laws.{tell, sized, at_plain, at_flag, at_bound, at_join, at_none, move_all}
+use Rattle.nodes.proofs.Laws.{tell, sized, at_plain, at_flag, at_bound, at_join, at_none, move_all, rest_laid, rest_laid_all}
 use Rattle.asking.specs.declared.Place.{Place}
 use Rattle.asking.specs.declared.Wrote.{Wrote}
 use Rattle.asking.specs.Asked.{turned, asked, star_all, onto, gathered, gathered_in}
 use Rattle.asking.specs.Asked.{Stars, Among, Sought, Seeks, Siblings, Stand, Gathers, MayGather, Asks}
-use Rattle.asking.proofs.Parts.{in_part, in_first, in_second, rest_laid, rest_laid_all}
+use Rattle.asking.proofs.Parts.{in_part, in_first, in_second}
 use Rattle.asking.proofs.Turned.{turned_end, star_nodes, star_count}
 use Rattle.asking.proofs.Onto.{onto_nodes, onto_count, onto_deep, onto_laid, laid_onto, count_nodes, star_onto, gathered_among}
 

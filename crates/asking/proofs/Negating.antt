@@ -12,10 +12,10 @@ use Rattle.nodes.specs.declared.Node.{Node}
 use Rattle.nodes.specs.Memory.{node_at, size_of, opposed}
 use Rattle.nodes.specs.Laid.{nodes, nodes_all, Laid, LaidAll}
 use Rattle.nodes.proofs.Memory.{put_here}
-use Rattle.nodes.proofs.Laws.{sized}
+use Rattle.nodes.proofs.Laws.{sized, rest_laid, rest_laid_all}
 use Rattle.condition.proofs.Putting.{split}
 use Rattle.asking.specs.Asked.{Negates, NegatesAll}
-use Rattle.asking.proofs.Parts.{before_part, in_part, rest_laid, rest_laid_all}
+use Rattle.asking.proofs.Parts.{before_part, in_part}
 
 -- ---- `negate`
 

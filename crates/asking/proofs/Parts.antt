@@ -1,4 +1,4 @@
--- The rest of the nodes, and a part of the output that is lent and back: before it stands what stood there, in it what the borrower left.
+-- A part of the output that is lent and back: before it stands what stood there, in it what the borrower left.
 use Prim.Native.Nat.{ℕ, ◌+◌, ◌≤◌, ◌<◌}
 use mathlib.Core.Path.{◌≡◌, ap, ◌∙◌}
 use mathlib.Core.List.{List, ◌++◌}
@@ -26,14 +26,3 @@ module _ (d part : ℕ) (xs ys zs : List Node) (fits : d ≤ length xs) (whole :
 
   pub in_second : (x : ℕ) → x < length zs → node_at (put_mid d part (ys ++ drop d xs) zs) (d + x) ≡ node_at zs x
   in_second x lt = search (rules, places)
-
--- what is laid from node i on is laid from the first of the rest on
-module _ (n m : ℕ → Node) (i : ℕ) (h : (x : ℕ) → m x ≡ n (i + x)) where
-  from : (k : ℕ) → m (0 + k) ≡ n (i + k)
-  from k = ap m (omega arith) ∙ h k
-
-  pub rest_laid : (t : Tree) → Laid t n i → Laid t m 0
-  rest_laid t l = move t n m i 0 (λ k lt. from k) l
-
-  pub rest_laid_all : (ts : Forest) → LaidAll ts n i → LaidAll ts m 0
-  rest_laid_all ts l = move_all ts n m i 0 (λ k lt. from k) l

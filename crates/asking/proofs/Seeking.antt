@@ -8,10 +8,9 @@ use Rattle.condition.specs.Folding.{live, live_all}
 use Rattle.nodes.specs.declared.Node.{Node}
 use Rattle.nodes.specs.Memory.{size_of}
 use Rattle.nodes.specs.Laid.{nodes, nodes_all, Laid, LaidAll}
-use Rattle.nodes.proofs.Laws.{some_node, sized}
+use Rattle.nodes.proofs.Laws.{some_node, sized, rest_laid}
 use Rattle.asking.specs.Asked.{ends_from, onto, Among, Sought}
 use Rattle.asking.proofs.EndsCounted.{ends_are}
-use Rattle.asking.proofs.Parts.{rest_laid}
 use Rattle.asking.proofs.Onto.{onto_again, onto_nodes, onto_live}
 
 -- the trees `elder` are passed, and `ahead` stand from node `at` on; what is left of m is `end`, an end of those ahead if m is an end

@@ -8,7 +8,7 @@ ghost use Rattle.nodes.specs.Memory.{node_at};
 ghost use Rattle.asking.specs.Asked.{turned, is_end, ends_from, Negates, NegatesAll, Stars, Seeks, Siblings, MayGather, Asks, Lives};
 
 use condition::{DEEPEST, QUESTION_ROOM};
-use nodes::{Node, node_at, put_node, size_at};
+use nodes::{Node, node_at, put_node, rest, size_at};
 
 // Of trees that stand one after the other, the one that has the end asked about: it stands after `at` nodes, in `size` nodes, and `end` is
 // that end among its own, counted from 0.
@@ -24,13 +24,6 @@ struct Place {
 struct Wrote {
     size: usize,
     trees: usize,
-}
-
-// The nodes from i on; past the end there are none, and each reads as plain false.
-fn rest(ns: &[Node], i: usize) -> &[Node]
-    ensures { (x : ℕ) → node_at result.now x ≡ node_at ns.now (i + x) }
-{
-    &ns[i.min(ns.len())..]
 }
 
 // The first nodes, as many as the output has.

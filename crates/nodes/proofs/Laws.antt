@@ -130,6 +130,17 @@ mutual
     move_all ts n m (i + nodes t) (j + nodes t) (λ k lt. ap m (omega arith) ∙ h (nodes t + k) (omega arith) ∙ ap n (omega arith)) l.1,
   )
 
+-- what is laid from node i on is laid from the first of the rest on
+module _ (n m : ℕ → Node) (i : ℕ) (h : (x : ℕ) → m x ≡ n (i + x)) where
+  from : (k : ℕ) → m (0 + k) ≡ n (i + k)
+  from k = ap m (omega arith) ∙ h k
+
+  pub rest_laid : (t : Tree) → Laid t n i → Laid t m 0
+  rest_laid t l = move t n m i 0 (λ k lt. from k) l
+
+  pub rest_laid_all : (ts : Forest) → LaidAll ts n i → LaidAll ts m 0
+  rest_laid_all ts l = move_all ts n m i 0 (λ k lt. from k) l
+
 -- ---- the nodes fix the tree
 
 end_once : (e : End) (u : Tree) (n : ℕ → Node) (i : ℕ) (k : Node) → n i ≡ k → EndIs e k → Laid u n i → leaf e ≡ u

@@ -2,7 +2,7 @@
 // subtree is skipped in one step, and the root says how many nodes a tree has.
 #![tactic(auto)]
 
-ghost use Rattle.std.specs.Prelude.{◌≡◌, ◌≤◌, set};
+ghost use Rattle.std.specs.Prelude.{◌≡◌, ℕ, ◌+◌, ◌≤◌, set};
 ghost use Rattle.nodes.specs.Memory.{node_at, opposed, size_of, count_of};
 
 #[derive(Clone, Copy)]
@@ -35,6 +35,13 @@ pub fn node_at(ns: &[Node], i: usize) -> Node
     ensures { result ≡ node_at ns.now i }
 {
     ns.get(i).copied().unwrap_or(Node::Plain(false))
+}
+
+// The nodes from i on; past the end there are none, and each reads as plain false.
+pub fn rest(ns: &[Node], i: usize) -> &[Node]
+    ensures { (x : ℕ) → node_at result.now x ≡ node_at ns.now (i + x) }
+{
+    &ns[i.min(ns.len())..]
 }
 
 // Puts a node at i; past the end it puts nothing.
