@@ -24,7 +24,7 @@ pub fn travelring_find(tree: &[u8], numbers: &mut [Whole], report: &mut [u64; 2]
 {
     let finding = Finding::from(travelring::find(tree, numbers));
     report[0] = finding.place as u64;
-    report[1] = finding.flags as u64;
+    report[1] = u64::from(finding.flags);
     finding.answer
 }
 
@@ -35,8 +35,8 @@ pub fn travelring_trim(tree: &[u8], ration: u32, out: &mut [u8], report: &mut [u
     let trimmed = travelring::trim(tree, ration, out);
     let trimming = Trimming::from(trimmed);
     report[0] = trimming.place as u64;
-    report[1] = trimming.questions as u64;
-    report[2] = trimming.ends as u64;
+    report[1] = u64::from(trimming.questions);
+    report[2] = u64::from(trimming.ends);
     report[3] = bytes_written(trimmed) as u64;
     trimming.answer
 }

@@ -1,2 +1,2 @@
--- What the enums of this crate say.
+-- What the refusals and the steps of this crate say.
 pub mod Said

@@ -19,7 +19,8 @@ const KEPT: usize = 32;
 // Two questions about each end, and a tree has no more ends than nodes.
 const QUESTIONS: usize = 2 * QUESTION_ROOM;
 
-// The first `many` of `found` are kept, and the tree has been walked under the first `tried` of these. `known` says which questions about
+// The first `many` of `found` are kept (an array and a count, since nothing is allocated), and the tree has been walked under the first
+// `tried` of these. `known` says which questions about
 // it are known to be answered no, which is all that contracts see.
 #[derive(Drop)]
 pub struct Kept {

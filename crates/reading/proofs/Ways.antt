@@ -1,4 +1,4 @@
--- What each way out of `flag_end`, `bound_end`, `node` and `children` shows. A stop is the definition's refusal, carried on; a read node is put after
+-- What each way out of `boolean`, `difference`, `node` and `children` shows. A stop is the definition's refusal, carried on; a read node is put after
 -- what stands already, so what stood before it still stands; the rest is the sizes, which are linear.
 use Prim.Native.Nat.{ℕ, ◌+◌, ◌-◌, ◌*◌, ◌≤◌, ◌<◌}
 use mathlib.Core.Path.{◌≡◌, refl, sym, subst, ap, ◌∙◌}

@@ -47,7 +47,7 @@ fn put_end(ns: &mut [Node], done: Part, end: Node, c: Cursor) -> Part
 
 // An end of a boolean, its tag g read.
 #[tactic(auto, using(crate::proofs::Ways::stops))]
-fn flag_end(s: &[u8], done: Part, g: Numeral, ns: &mut [Node]) -> Result<Part, Refusal>
+fn boolean(s: &[u8], done: Part, g: Numeral, ns: &mut [Node]) -> Result<Part, Refusal>
     requires { May 1 s.now done (length ns.old) × (g < 6) }
     ensures { EndRight ns.old ns.new s.now g done result }
 {
@@ -60,7 +60,7 @@ fn flag_end(s: &[u8], done: Part, g: Numeral, ns: &mut [Node]) -> Result<Part, R
 
 // An end of two numbers, its tag g read.
 #[tactic(auto, using(crate::proofs::Ways::stops))]
-fn bound_end(s: &[u8], done: Part, g: Numeral, ns: &mut [Node]) -> Result<Part, Refusal>
+fn difference(s: &[u8], done: Part, g: Numeral, ns: &mut [Node]) -> Result<Part, Refusal>
     requires { May 1 s.now done (length ns.old) × (6 ≤ g) }
     ensures { EndRight ns.old ns.new s.now g done result }
 {
@@ -110,8 +110,8 @@ fn node(s: &[u8], done: Part, ns: &mut [Node]) -> Result<Part, Refusal>
             put_node(ns, done.free, Node::Join(g == 2, k, size));
             Ok(kids)
         }
-        4 | 5 => flag_end(s, Part { cursor: c1, ..done }, g, ns),
-        _ => bound_end(s, Part { cursor: c1, ..done }, g, ns),
+        4 | 5 => boolean(s, Part { cursor: c1, ..done }, g, ns),
+        _ => difference(s, Part { cursor: c1, ..done }, g, ns),
     }
 }
 

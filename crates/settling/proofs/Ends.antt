@@ -12,7 +12,7 @@ use Rattle.std.proofs.lemmas.Option.{none-some}
 use Rattle.condition.specs.Meaning.{Assignment, met}
 use Rattle.nodes.specs.Laid.{flag_end}
 use Rattle.settling.specs.declared.settled.Settled.{Settled}
-use Rattle.settling.specs.Settled.{Agrees, Learns}
+use Rattle.settling.specs.Settled.{Agrees, Fixes}
 
 flag_met : (so : Bool) (p : ℕ) (a : Assignment) → (met (flag_end so p) a ≡ true) ↔ (a.flag p ≡ so)
 unfolding met
@@ -21,7 +21,7 @@ flag_met false p a = ((λ e. sym (not-not (a.flag p)) ∙ ap not e), (λ e. ap n
 
 module _ (s : Settled) (so : Bool) (p : ℕ) where
   -- settled already, one way or the other
-  pub mark_known : (b : Bool) → get_or s.flags p None ≡ Some b → Learns s (flag_end so p) (beq b so) s
+  pub mark_known : (b : Bool) → get_or s.flags p None ≡ Some b → Fixes s (flag_end so p) (beq b so) s
   mark_known b h = record {
     ors = refl;
     many = refl;
@@ -58,7 +58,7 @@ module _ (s : Settled) (so : Bool) (p : ℕ) where
         side : (so' : Bool) → Some so ≡ Some so' → so ≡ so'
         side so' e = cc
 
-    pub mark_set : s'.ors ≡ s.ors → s'.many ≡ s.many → s'.table ≡ s.table → Learns s (flag_end so p) true s'
+    pub mark_set : s'.ors ≡ s.ors → s'.many ≡ s.many → s'.table ≡ s.table → Fixes s (flag_end so p) true s'
     mark_set o m t = record {
       ors = o;
       many = m;

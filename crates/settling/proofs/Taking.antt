@@ -18,7 +18,7 @@ use Rattle.nodes.specs.declared.Node.TheVariants as node
 use Rattle.nodes.specs.Laid.{flag_end, bound_end, nodes, nodes_all, Laid, LaidAll}
 use Rattle.nodes.proofs.Laws.{some_node, at_plain, at_flag, at_bound, at_join}
 use Rattle.settling.specs.declared.settled.Settled.{Settled}
-use Rattle.settling.specs.Settled.{Knows, Learns, Holds, Or, Stands, Waits, owed, bulk, Work, Done, Reaches, Takes, Settles}
+use Rattle.settling.specs.Settled.{Knows, Fixes, Stacks, Or, Stands, Waits, owed, bulk, Work, Done, Reaches, Takes, Settles}
 use Rattle.settling.proofs.Forests.{append, append_nodes, append_laid, append_named, append_each, first}
 
 -- ---- the stack
@@ -128,7 +128,7 @@ module _ {n : ℕ → Node} {i : ℕ} {us : Forest} {s : Settled} {os : List Tre
 
   -- an `or` waits
   or_taken : (ts : Forest) (below : ℕ) → u ≡ join any ts → nodes_all ts ≡ below → s.many < length s.ors → (s' : Settled) →
-      Holds s i true s' → Reaches n i us os s (i + 1 + below) s'
+      Stacks s i true s' → Reaches n i us os s (i + 1 + below) s'
   unfolding nodes owed bulk Named
   or_taken ts below e z room s' h =
       let m : nodes u ≡ nodes_all ts + 1 = ap nodes e in
@@ -172,7 +172,7 @@ module _ (n : ℕ → Node) (i : ℕ) (s : Settled) where
       end_stops w f.u f.rest f.same (λ a k y. true≢false (sym y ∙ ap (λ x. holds x a) t)))
 
   -- a boolean or a bound
-  take_end : (e : End) (ok : Bool) (r : Option ℕ) (s' : Settled) → ((t : Tree) → Laid t n i → t ≡ leaf e) → Learns s e ok s' →
+  take_end : (e : End) (ok : Bool) (r : Option ℕ) (s' : Settled) → ((t : Tree) → Laid t n i → t ≡ leaf e) → Fixes s e ok s' →
       r ≡ then_some ok (i + 1) → Takes n i s r s'
   unfolding nodes holds Named
   take_end e true r s' is l q = rw q (
@@ -191,12 +191,12 @@ module _ (n : ℕ → Node) (i : ℕ) (s : Settled) where
       end_stops w f.u f.rest f.same
       (λ a k y. l.none refl (subst Named t (named_first w f.u f.rest f.same).0) a k (sym (ap (λ x. holds x a) t) ∙ y)))
 
-  pub take_flag : (so : Bool) (p : ℕ) (ok : Bool) (r : Option ℕ) (s' : Settled) → n i ≡ node.Flag so p → Learns s (flag_end so p) ok s' →
+  pub take_flag : (so : Bool) (p : ℕ) (ok : Bool) (r : Option ℕ) (s' : Settled) → n i ≡ node.Flag so p → Fixes s (flag_end so p) ok s' →
       r ≡ then_some ok (i + 1) → Takes n i s r s'
   take_flag so p ok r s' q = take_end (flag_end so p) ok r s' (λ t. at_flag n i t so p q)
 
   pub take_bound : (so : Bool) (x y v : ℕ) (ok : Bool) (r : Option ℕ) (s' : Settled) → n i ≡ node.Bound so x y v →
-      Learns s (bound_end so x y v) ok s' → r ≡ then_some ok (i + 1) → Takes n i s r s'
+      Fixes s (bound_end so x y v) ok s' → r ≡ then_some ok (i + 1) → Takes n i s r s'
   take_bound so x y v ok r s' q = take_end (bound_end so x y v) ok r s' (λ t. at_bound n i t so x y v q)
 
   pub take_and : (k below : ℕ) → n i ≡ node.Join true k below → Takes n i s (Some (i + 1)) s
@@ -208,7 +208,7 @@ module _ (n : ℕ → Node) (i : ℕ) (s : Settled) where
         and_taken w f.u f.rest f.same j.ts j.tree j.laid,
   )
 
-  pub take_or : (k below : ℕ) (ok : Bool) (r : Option ℕ) (s' : Settled) → n i ≡ node.Join false k below → Holds s i ok s' → r ≡ then_some ok (i + 1 + below) → Takes n i s r s'
+  pub take_or : (k below : ℕ) (ok : Bool) (r : Option ℕ) (s' : Settled) → n i ≡ node.Join false k below → Stacks s i ok s' → r ≡ then_some ok (i + 1 + below) → Takes n i s r s'
   take_or k below true r s' q h e = rw e (
     omega arith,
     λ us os w some.

@@ -28,7 +28,7 @@ pub record Clear (s : Settled) : Type 0 where
   pub numbers : Starts s.table.distances
 
 -- s' is s with the end e settled; ok is false if that can't be
-pub record Learns (s : Settled) (e : End) (ok : Bool) (s' : Settled) : Type 0 where
+pub record Fixes (s : Settled) (e : End) (ok : Bool) (s' : Settled) : Type 0 where
   pub ors : s'.ors ≡ s.ors
   pub many : s'.many ≡ s.many
   pub meets : ok ≡ true → (a : Assignment) → Knows s' a ↔ (Knows s a × (met e a ≡ true))
@@ -37,7 +37,7 @@ pub record Learns (s : Settled) (e : End) (ok : Bool) (s' : Settled) : Type 0 wh
 -- ---- what waits
 
 -- s' is s with the `or` at node i on top; ok is false if the stack is full
-pub record Holds (s : Settled) (i : ℕ) (ok : Bool) (s' : Settled) : Type 0 where
+pub record Stacks (s : Settled) (i : ℕ) (ok : Bool) (s' : Settled) : Type 0 where
   pub flags : s'.flags ≡ s.flags
   pub table : s'.table ≡ s.table
   pub room : ok ≡ true → s.many < length s.ors

@@ -24,7 +24,7 @@ impl Settled {
     ghost use Rattle.std.specs.Prelude.{◌≡◌, ◌<◌};
     ghost use Rattle.nodes.specs.Memory.{node_at};
     ghost use Rattle.nodes.specs.Laid.{flag_end, bound_end};
-    ghost use Rattle.settling.specs.Settled.{Clear, Learns, Holds, Takes, Settles, Bits, Shows, Guesses, Attempts};
+    ghost use Rattle.settling.specs.Settled.{Clear, Fixes, Stacks, Takes, Settles, Bits, Shows, Guesses, Attempts};
 
     // Nothing settled but that the numbers are in range.
     pub fn nothing() -> Settled
@@ -40,7 +40,7 @@ impl Settled {
 
     // Settles boolean p, unless it is settled the other way.
     fn mark(&mut self, so: bool, p: u32) -> bool
-        ensures { Learns self.old (flag_end so p) result self.new }
+        ensures { Fixes self.old (flag_end so p) result self.new }
     {
         if LAST_BOOLEAN < p {
             return false;
@@ -54,7 +54,7 @@ impl Settled {
 
     // Settles x - y <= w - LARGEST_BOUND, or (false) its negation.
     fn bound(&mut self, so: bool, x: u32, y: u32, w: u32) -> bool
-        ensures { Learns self.old (bound_end so x y w) result self.new }
+        ensures { Fixes self.old (bound_end so x y w) result self.new }
     {
         if LAST_NUMBER < x || LAST_NUMBER < y || 2 * LARGEST_BOUND < w {
             return false;
@@ -69,7 +69,7 @@ impl Settled {
     // Lets the `or` at node i wait, if there is room.
     fn wait(&mut self, i: usize) -> bool
         requires { i < question_room }
-        ensures { Holds self.old i result self.new }
+        ensures { Stacks self.old i result self.new }
     {
         if self.many == QUESTION_ROOM {
             return false;

@@ -1,4 +1,4 @@
--- No choice is left: any two outcomes that a contract allows for one input coincide, find's choice of assignment aside. Each enum is
+-- No choice is left: any two outcomes that a contract allows for one input coincide, find's choice of assignment aside. Each result is
 -- read back off its number, place and value, so what a contract fixes fixes the enum; and a tree that has a satisfying assignment
 -- cannot also have none.
 use Prim.Native.Nat.{ℕ}

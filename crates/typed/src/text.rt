@@ -1,5 +1,5 @@
 // Reads a typed line from left to right.
-ghost use Rattle.std.specs.Prelude.{◌≡◌, ◌≢◌, ◌↔◌, ◌+◌, ◌≤◌, ◌<◌, [], ◌++◌, length, IfOk, IfErr, IsOk, All, Some, codes};
+ghost use Rattle.std.specs.Prelude.{◌≡◌, ◌≢◌, ◌↔◌, ◌+◌, ◌≤◌, ◌<◌, [], ◌++◌, length, IfOk, IfErr, IsOk, All, Some, codes, slice_index_or};
 ghost use Rattle.std.specs.Fmt.{decimal};
 ghost use Rattle.condition.specs.Limits.{last_number};
 
@@ -38,12 +38,20 @@ impl<'a> Line<'a> {
     pub fn first_word(line: &'a [u8]) -> (&'a [u8], Line<'a>)
         ensures parts { result.0.now ++ result.1.rest.now ≡ line.now }
         ensures spaceless { All (λ c. c ≢ 32) result.0.now }
+        ensures space { slice_index_or result.1.rest.now 0 32 ≡ 32 }
         ensures place { result.1.size ≡ length line.now }
     {
-        let end = line.iter().position(|c| *c == b' ').unwrap_or(line.len());
-        let (word, rest) = line.split_at(end);
         let size = line.len();
-        (word, Line { size, rest })
+        match line.iter().position(|c| *c == b' ') {
+            Some(end) => (
+                &line[..end],
+                Line {
+                    size,
+                    rest: &line[end..],
+                },
+            ),
+            None => (line, Line { size, rest: &[] }),
+        }
     }
 
     fn stuck(&self) -> Stuck

@@ -1,4 +1,4 @@
--- What the loop of `differences::lower_row` keeps; Answers.antt says the argument.
+-- What the loop of `differences::lower_row` keeps: the row is lowered up to column j, and row y, which is another, is as it was.
 use Prim.Native.Nat.{◌+◌, ◌*◌, ◌≤◌}
 use Rattle.differences.specs.Table.{numbers}
 use Rattle.differences.specs.Rows.{Part, lowered}

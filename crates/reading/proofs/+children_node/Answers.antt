@@ -49,10 +49,10 @@ node-returns-in_err-kids-in-2 t c =
     (omega (arith, c.if-done-k.false, c.requires)) _ _ c.in_err-kids-in-2.ensures)
 
 pub node-returns-in-4 : goal.node-returns-in-4
-node-returns-in-4 t c = ways.node_end _ _ _ _ c.requires _ _ c.in-Ok.ensures (omega arith) _ c.flag_end.ensures
+node-returns-in-4 t c = ways.node_end _ _ _ _ c.requires _ _ c.in-Ok.ensures (omega arith) _ c.boolean.ensures
 
 pub node-returns-in_default-g : goal.node-returns-in_default-g
-node-returns-in_default-g t c = ways.node_end _ _ _ _ c.requires _ _ c.in-Ok.ensures (omega arith) _ c.bound_end.ensures
+node-returns-in_default-g t c = ways.node_end _ _ _ _ c.requires _ _ c.in-Ok.ensures (omega arith) _ c.difference.ensures
 
 pub node-returns-in_ok-kids-in-2 : goal.node-returns-in_ok-kids-in-2
 node-returns-in_ok-kids-in-2 t c =

@@ -1,6 +1,6 @@
--- `reading::flag_end` meets its contract: a step that yields no value stops it, and what was read is put at the next free node (Ways.antt).
+-- `reading::boolean` meets its contract: a step that yields no value stops it, and what was read is put at the next free node (Ways.antt).
 use Rattle.reading.proofs.Ways as ways
-use Rattle.reading.proofs.flag_end.Goals as goal
+use Rattle.reading.proofs.boolean.Goals as goal
 
 pub returns : goal.returns
 returns c =

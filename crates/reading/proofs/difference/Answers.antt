@@ -1,7 +1,7 @@
--- `reading::bound_end` meets its contract: a step that yields no value stops it, and what was read is put at the next free node
+-- `reading::difference` meets its contract: a step that yields no value stops it, and what was read is put at the next free node
 -- (Ways.antt).
 use Rattle.reading.proofs.Ways as ways
-use Rattle.reading.proofs.bound_end.Goals as goal
+use Rattle.reading.proofs.difference.Goals as goal
 
 pub returns : goal.returns
 returns c =
