@@ -20,11 +20,11 @@ const CELLS: usize = NUMBERS * NUMBERS;
 
 const OFFSET: Distance = 2 * FARTHEST;
 
-// A table whose entries are tightest: no two in a row are tighter than the one from end to end.
+// The entries, row after row, as callers always have them: no two in a row are tighter than the one from end to end.
 #[derive(Clone, Copy)]
 pub struct Table {
-    distances: [Distance; CELLS],
-    ghost closed: { Closed distances },
+    entries: [Distance; CELLS],
+    ghost closed: { Closed entries },
 }
 
 // Lowers row i in place to the way round by the new bound, where that is less: `left` is the row's way to y, and row y, which is
@@ -41,6 +41,7 @@ fn lower_row(t: &mut [Distance; CELLS], i: usize, y: usize, left: Distance)
 
 // Works x - y <= c in, where c is the bound with the offset. If the way from y to x and c sum below 0, the two contradict each other.
 // If the entry is as tight already, nothing changes; else only the rows whose way to y is shorter by c do, and row y is none of them.
+// Between two rows the entries are not closed, so this and lower_row take the array and not the table.
 #[tactic(auto, using(crate::proofs::Lowered::between_upper, crate::proofs::Rows::row_upper))]
 fn work_in(t: &mut [Distance; CELLS], x: usize, y: usize, c: Distance) -> bool
     requires { Ready t.old x y × (c ≤ 2 * offset) }
@@ -62,9 +63,11 @@ fn work_in(t: &mut [Distance; CELLS], x: usize, y: usize, c: Distance) -> bool
 }
 
 impl Table {
+    ghost use Rattle.differences.specs.Distances.{distances};
+
     // The table that says only that the numbers are in range: two of them lie as far apart as both may from number 0, which is 0.
     pub fn start() -> Table
-        ensures { Starts result.distances }
+        ensures { Starts (distances result) }
     {
         let mut t: [Distance; CELLS] = [OFFSET + 2 * FARTHEST; CELLS];
         for i in 0..NUMBERS {
@@ -72,31 +75,31 @@ impl Table {
             t[i * NUMBERS] = OFFSET + FARTHEST;
             t[i * NUMBERS + i] = OFFSET;
         }
-        Table { distances: t }
+        Table { entries: t }
     }
 
     // Adds x - y <= c - LARGEST_BOUND in place: a node keeps its bound so. False: nothing meets the table and this, and the table stays.
     pub fn add(&mut self, x: usize, y: usize, c: u32) -> bool
         requires { (x ≤ last_number) × (y ≤ last_number) × (c ≤ 2 * largest_bound) }
-        ensures { Adds self.old.distances (at_most x y (pos c -ℤ pos largest_bound)) result self.new.distances }
+        ensures { Adds (distances self.old) (at_most x y (pos c -ℤ pos largest_bound)) result (distances self.new) }
     {
-        work_in(&mut self.distances, x, y, OFFSET - LARGEST_BOUND + c)
+        work_in(&mut self.entries, x, y, OFFSET - LARGEST_BOUND + c)
     }
 
     // Adds its negation: over whole numbers y - x <= -c - 1.
     pub fn add_above(&mut self, x: usize, y: usize, c: u32) -> bool
         requires { (x ≤ last_number) × (y ≤ last_number) × (c ≤ 2 * largest_bound) }
-        ensures { Adds self.old.distances (above x y (pos c -ℤ pos largest_bound)) result self.new.distances }
+        ensures { Adds (distances self.old) (above x y (pos c -ℤ pos largest_bound)) result (distances self.new) }
     {
-        work_in(&mut self.distances, y, x, OFFSET + LARGEST_BOUND - 1 - c)
+        work_in(&mut self.entries, y, x, OFFSET + LARGEST_BOUND - 1 - c)
     }
 
     // Number i of the tightest assignment that meets the table.
     pub fn number(&self, i: usize) -> Whole
         requires { i ≤ last_number }
-        ensures { Shown self.now.distances i result }
+        ensures { Shown (distances self.now) i result }
     {
-        let high = self.distances[i * NUMBERS];
+        let high = self.entries[i * NUMBERS];
         high as Whole - OFFSET as Whole
     }
 }

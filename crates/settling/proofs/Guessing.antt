@@ -17,6 +17,7 @@ use Rattle.condition.specs.Limits.{last_boolean, booleans, last_number, question
 use Rattle.condition.specs.Meaning.{Assignment, value, met, any, Tree, Forest, none, more, count, holds, each, given}
 use Rattle.condition.specs.Satisfying.{Satisfiable, Named, NamedAll}
 use Rattle.condition.proofs.Small.{small}
+use Rattle.differences.specs.Distances.{distances}
 use Rattle.differences.specs.Table.{Meets, Closed, tightest}
 use Rattle.differences.proofs.Closed.{tightest_meets}
 use Rattle.nodes.specs.declared.Node.{Node}
@@ -61,13 +62,13 @@ given_agrees bits numbers b z h = record {
 
 -- nothing waits
 pub guess_done : (n : ℕ → Node) (s : Settled) (left : ℕ) → s.many ≡ 0 → length s.flags ≡ booleans → (bits : ℕ) (numbers : List ℤ) →
-    Bits s.flags bits → Shows s.table.distances numbers → Guesses n s left (Some (record { flags = bits; numbers = numbers }))
+    Bits s.flags bits → Shows (distances s.table) numbers → Guesses n s left (Some (record { flags = bits; numbers = numbers }))
 unfolding Waits owed holds
 guess_done n s left z size bits numbers h shows os w few time = by os w
   where
     by : (os : List Tree) → Waits os n s.ors s.many → Done s none os (given bits numbers)
     by [] w = record {
-      knows = record { flags = given_agrees bits numbers s.flags size h; numbers = given_meets bits numbers s.table.distances s.table.closed shows };
+      knows = record { flags = given_agrees bits numbers s.flags size h; numbers = given_meets bits numbers (distances s.table) s.table.closed shows };
       each = refl;
       owed = refl;
     }

@@ -5,6 +5,7 @@ use Rattle.std.specs.Option.{unwrap_or}
 use Rattle.condition.specs.Limits.{last_boolean, last_number, question_room}
 use Rattle.condition.specs.Meaning.{Assignment, value, End, met, all, any, Tree, join, Forest, none, holds, each, EndWithin, given}
 use Rattle.condition.specs.Satisfying.{Satisfiable, InRange, Named, NamedAll}
+use Rattle.differences.specs.Distances.{distances}
 use Rattle.differences.specs.Table.{Meets, Starts, tightest}
 use Rattle.nodes.specs.declared.Node.{Node}
 use Rattle.nodes.specs.Laid.{nodes, nodes_all, Laid, LaidAll}
@@ -19,13 +20,13 @@ pub record Agrees (b : List (Option Bool)) (a : Assignment) : Type 0 where
 -- an assignment agrees with all that is settled
 pub record Knows (s : Settled) (a : Assignment) : Type 0 where
   pub flags : Agrees s.flags a
-  pub numbers : Meets s.table.distances a
+  pub numbers : Meets (distances s.table) a
 
 -- nothing is settled but the numbers' range, and nothing waits
 pub record Clear (s : Settled) : Type 0 where
   pub waits : s.many ≡ 0
   pub flags : (p : ℕ) → get_or s.flags p None ≡ None
-  pub numbers : Starts s.table.distances
+  pub numbers : Starts (distances s.table)
 
 -- s' is s with the end e settled; ok is false if that can't be
 pub record Fixes (s : Settled) (e : End) (ok : Bool) (s' : Settled) : Type 0 where

@@ -24,6 +24,7 @@ impl Settled {
     ghost use Rattle.std.specs.Prelude.{◌≡◌, ◌<◌};
     ghost use Rattle.nodes.specs.Memory.{node_at};
     ghost use Rattle.nodes.specs.Laid.{flag_end, bound_end};
+    ghost use Rattle.differences.specs.Distances.{distances};
     ghost use Rattle.settling.specs.Settled.{Clear, Fixes, Stacks, Takes, Settles, Bits, Shows, Guesses, Attempts};
 
     // Nothing settled but that the numbers are in range.
@@ -122,7 +123,7 @@ impl Settled {
 
     // The numbers that the table has, in the order of their names.
     fn numbers(&self) -> [Whole; ASSIGNED]
-        ensures { Shows self.now.table.distances result }
+        ensures { Shows (distances self.now.table) result }
     {
         let mut numbers = [0; ASSIGNED];
         for (i, number) in numbers.iter_mut().enumerate() {
