@@ -1,4 +1,4 @@
--- The walk, one law a way out. What the node at i says of the tree laid there gives the folded tree from what the calls below wrote;
+-- The walk, one law a way out. What the first node says of the tree laid there gives the folded tree from what the calls below wrote;
 -- where a child is longer than what is left, no tree is laid that fits. A kept child stands before the others.
 use Prim.Native.Nat.{ℕ, ◌+◌, ◌-◌, ◌≤◌, ◌<◌}
 use mathlib.Core.Path.{◌≡◌, refl, sym, subst, ap, ◌∙◌}
@@ -14,23 +14,23 @@ use Rattle.nodes.specs.declared.Node.{Node}
 use Rattle.nodes.specs.declared.Node.TheVariants as node
 use Rattle.nodes.specs.Memory.{node_at, size_of}
 use Rattle.nodes.specs.Laid.{join_of, flag_end, bound_end, EndIs, nodes, nodes_all, Laid, LaidAll}
-use Rattle.nodes.proofs.Laws.{sized, at_plain, at_flag, at_bound, at_join, at_more, move, move_all}
+use Rattle.nodes.proofs.Laws.{sized, at_plain, at_flag, at_bound, at_join, at_more, move, move_all, rest_laid_all}
 use Rattle.folding.specs.declared.Cut.{Cut}
 use Rattle.folding.specs.declared.Kid.{Kid}
 use Rattle.folding.specs.declared.Kids.{Kids}
 use Rattle.folding.specs.Folded.{Folded}
-use Rattle.folding.specs.Parts.{past, first_cut, end_or, cut, cut_all, constant_of, KidIs, Leaves, size_kept, count_kept}
+use Rattle.folding.specs.Parts.{past, first_cut, end_or, cut, cut_all, constant_of, KidIs, Leaves, size_left, count_left}
 use Rattle.folding.specs.Parts.{EndRight, ShutRight, NodeRight, ChildrenRight}
 use Rattle.folding.proofs.Cuts.{past_none, past_more, cut_is}
 
 -- ---- a tree
 
-module _ (n : ℕ → Node) (i left : ℕ) (x : Option Cut) where
-  pub plain_folded : (o : ℕ → Node) (v : Bool) (r : Kid) → n i ≡ node.Plain v → 1 ≤ left → KidIs o (plain v) r → NodeRight n i left x x o r
+module _ (n : ℕ → Node) (left : ℕ) (x : Option Cut) where
+  pub plain_folded : (o : ℕ → Node) (v : Bool) (r : Kid) → n 0 ≡ node.Plain v → 1 ≤ left → KidIs o (plain v) r → NodeRight n left x x o r
   unfolding fold cut live nodes
   plain_folded o v r e some k = record {
     small = omega (arith, k.sized);
-    is = λ t l h. rw (at_plain n i t v e l) (k, sym (past_none x));
+    is = λ t l h. rw (at_plain n 0 t v e l) (k, sym (past_none x));
   }
 
   end_stays : (e : End) → fold (cut (leaf e) x) ≡ end_or e (first_cut x)
@@ -41,8 +41,8 @@ module _ (n : ℕ → Node) (i left : ℕ) (x : Option Cut) where
       by None = refl
       by (Some b) = refl
 
-  end_folded : (y : Option Cut) (o : ℕ → Node) (r : Kid) (k : Node) (e : End) → EndIs e k → ((t : Tree) → Laid t n i → t ≡ leaf e) → 1 ≤ left →
-      EndRight k x y o r → NodeRight n i left x y o r
+  end_folded : (y : Option Cut) (o : ℕ → Node) (r : Kid) (k : Node) (e : End) → EndIs e k → ((t : Tree) → Laid t n 0 → t ≡ leaf e) → 1 ≤ left →
+      EndRight k x y o r → NodeRight n left x y o r
   unfolding live
   end_folded y o r k e h only some E = record {
     small = omega (arith, E.small);
@@ -50,31 +50,32 @@ module _ (n : ℕ → Node) (i left : ℕ) (x : Option Cut) where
   }
 
   -- the node, which is neither a constant nor a connective
-  pub an_end_folded : (y : Option Cut) (o : ℕ → Node) (r : Kid) (k : Node) → n i ≡ k → ((b : Bool) → k ≡ node.Plain b → ⊥) →
-      ((a : Bool) (z s : ℕ) → k ≡ node.Join a z s → ⊥) → 1 ≤ left → EndRight k x y o r → NodeRight n i left x y o r
+  pub an_end_folded : (y : Option Cut) (o : ℕ → Node) (r : Kid) (k : Node) → n 0 ≡ k → ((b : Bool) → k ≡ node.Plain b → ⊥) →
+      ((a : Bool) (z s : ℕ) → k ≡ node.Join a z s → ⊥) → 1 ≤ left → EndRight k x y o r → NodeRight n left x y o r
   an_end_folded y o r (node.Plain b) q c j some E = absurd (c b refl)
   an_end_folded y o r (node.Join a z s) q c j some E = absurd (j a z s refl)
-  an_end_folded y o r (node.Flag so p) q c j some E = end_folded y o r _ (flag_end so p) refl (λ t l. at_flag n i t so p q l) some E
+  an_end_folded y o r (node.Flag so p) q c j some E = end_folded y o r _ (flag_end so p) refl (λ t l. at_flag n 0 t so p q l) some E
   an_end_folded y o r (node.Bound so u v w) q c j some E =
-      end_folded y o r _ (bound_end so u v w) refl (λ t l. at_bound n i t so u v w q l) some E
+      end_folded y o r _ (bound_end so u v w) refl (λ t l. at_bound n 0 t so u v w q l) some E
 
-  -- the children stand after the first node of the output
-  pub join_folded : (y : Option Cut) (every : Bool) (k s : ℕ) (o₀ o₁ o : ℕ → Node) (kept : Option Kids) (r : Kid) →
-      n i ≡ node.Join every k s → 1 ≤ left →
-      ChildrenRight n (i + 1) (left - 1) every k x y o₀ kept → ((z : ℕ) → z < left - 1 → o₁ (1 + z) ≡ o₀ z) → ShutRight every kept o₁ o r →
-      NodeRight n i left x y o r
+  -- the children stand after the first node, those that are left after the first node of the output
+  pub join_folded : (m : ℕ → Node) (y : Option Cut) (every : Bool) (k s : ℕ) (o₀ o₁ o : ℕ → Node) (kept : Option Kids) (r : Kid) →
+      n 0 ≡ node.Join every k s → ((z : ℕ) → m z ≡ n (1 + z)) → 1 ≤ left →
+      ChildrenRight m (left - 1) every k x y o₀ kept → ((z : ℕ) → z < left - 1 → o₁ (1 + z) ≡ o₀ z) → ShutRight every kept o₁ o r →
+      NodeRight n left x y o r
   unfolding fold cut live nodes
-  join_folded y every k s o₀ o₁ o kept r e some K up S = record {
+  join_folded m y every k s o₀ o₁ o kept r e from some K up S = record {
     small = omega (arith, S.small, K.small);
     is = λ t l h.
-        let p = at_join n i t every k s e l in
+        let p = at_join n 0 t every k s e l in
         let size : nodes t ≡ nodes_all p.ts + 1 = ap nodes p.tree in
-        let found = K.is p.ts p.laid p.many (omega arith) in
+        let laid = rest_laid_all n m 1 from p.ts (subst (LaidAll p.ts n) (omega arith) p.laid) in
+        let found = K.is p.ts laid p.many (omega arith) in
         let rest : Left = fold_all (cut_all p.ts x) (join_of every) in
         rw p.tree (S.is rest (shifted rest kept K.small found.0), found.1);
   }
     where
-      shifted : (l : Left) (kids : Option Kids) → size_kept kids ≤ left - 1 → Leaves l o₀ 0 kids → Leaves l o₁ 1 kids
+      shifted : (l : Left) (kids : Option Kids) → size_left kids ≤ left - 1 → Leaves l o₀ 0 kids → Leaves l o₁ 1 kids
       shifted decided None w h = tt
       shifted decided (Some q) w h = absurd h
       shifted (these us) None w h = absurd h
@@ -120,23 +121,24 @@ still_decided any (plain false) = refl
 still_decided g (leaf e) = refl
 still_decided g (join h us) = refl
 
--- ---- the k trees from i on: none, or s is the size of the first
+-- ---- the k trees from node 0 on: none, or s is the size of the first
 
-module _ (n : ℕ → Node) (i left : ℕ) (every : Bool) (k : ℕ) (x : Option Cut) where
-  pub none_folded : (o : ℕ → Node) (s : ℕ) → s ≡ size_of (n i) → (¬ (k ≡ 0) → left < s) →
-      ChildrenRight n i left every k x x o (Some (record { count = 0; size = 0 }))
+module _ (n : ℕ → Node) (left : ℕ) (every : Bool) (k : ℕ) (x : Option Cut) where
+  pub none_folded : (o : ℕ → Node) (s : ℕ) → s ≡ size_of (n 0) → (¬ (k ≡ 0) → left < s) →
+      ChildrenRight n left every k x x o (Some (record { count = 0; size = 0 }))
   unfolding fold cut live Laid nodes
   none_folded o s first h = record { small = omega arith; few = omega arith; is = by }
     where
-      by : (ts : Forest) → LaidAll ts n i → count ts ≡ k → nodes_all ts ≤ left →
+      by : (ts : Forest) → LaidAll ts n 0 → count ts ≡ k → nodes_all ts ≤ left →
           Leaves (fold_all (cut_all ts x) (join_of every)) o 0 (Some (record { count = 0; size = 0 })) × (x ≡ past (live_all ts) x)
       by none l e w = (record { laid = tt; sized = refl; counted = refl; headed = tt }, sym (past_none x))
-      by (more t ts) l e w = let size = sized t n i l.0 in absurd (omega (arith, h (λ z. omega arith)))
+      by (more t ts) l e w = let size = sized t n 0 l.0 in absurd (omega (arith, h (λ z. omega arith)))
 
-  -- the first child is folded, then the others
-  module _ (some : ¬ (k ≡ 0)) (s : ℕ) (first : s ≡ size_of (n i)) (fits : s ≤ left) (one : 1 ≤ s)
-      (y : Option Cut) (o₁ : ℕ → Node) (r₁ : Kid) (F : NodeRight n i s x y o₁ r₁)
-      (z : Option Cut) (o₂ : ℕ → Node) (r₂ : Option Kids) (R : ChildrenRight n (i + s) (left - s) every (k - 1) y z o₂ r₂) where
+  -- the first child is folded, then the others, which stand in the nodes m
+  module _ (some : ¬ (k ≡ 0)) (s : ℕ) (first : s ≡ size_of (n 0)) (fits : s ≤ left) (one : 1 ≤ s)
+      (y : Option Cut) (o₁ : ℕ → Node) (r₁ : Kid) (F : NodeRight n s x y o₁ r₁)
+      (m : ℕ → Node) (from : (v : ℕ) → m v ≡ n (s + v))
+      (z : Option Cut) (o₂ : ℕ → Node) (r₂ : Option Kids) (R : ChildrenRight m (left - s) every (k - 1) y z o₂ r₂) where
     record Both (ts : Forest) : Type 0 where
       u : Tree
       l : Left
@@ -145,14 +147,14 @@ module _ (n : ℕ → Node) (i left : ℕ) (every : Bool) (k : ℕ) (x : Option 
       others : Leaves l o₂ 0 r₂
       goes : z ≡ past (live_all ts) x
 
-    found : (ts : Forest) → LaidAll ts n i → count ts ≡ k → nodes_all ts ≤ left → Both ts
+    found : (ts : Forest) → LaidAll ts n 0 → count ts ≡ k → nodes_all ts ≤ left → Both ts
     unfolding fold cut live
     found ts l e h =
-        let f = at_more ts n i k e some l in
+        let f = at_more ts n 0 k e some l in
         let total = f.total in
-        let size : s ≡ nodes f.t = first ∙ sized f.t n i f.laid in
+        let size : s ≡ nodes f.t = first ∙ sized f.t n 0 f.laid in
         let a = F.is f.t f.laid (omega arith) in
-        let laid : LaidAll f.us n (i + s) = rw size f.others in
+        let laid = rest_laid_all n m s from f.us (subst (LaidAll f.us n) (omega arith) f.others) in
         let b = R.is f.us laid f.many (omega arith) in
         let lives : live_all ts ≡ live f.t + live_all f.us = ap live_all f.forest in
         record {
@@ -166,7 +168,7 @@ module _ (n : ℕ → Node) (i left : ℕ) (every : Bool) (k : ℕ) (x : Option 
         }
 
     -- one of the others decides
-    pub others_decide : (o : ℕ → Node) → r₂ ≡ None → ChildrenRight n i left every k x z o None
+    pub others_decide : (o : ℕ → Node) → r₂ ≡ None → ChildrenRight n left every k x z o None
     others_decide o none_left = record {
       small = omega arith;
       few = omega arith;
@@ -177,7 +179,7 @@ module _ (n : ℕ → Node) (i left : ℕ) (every : Bool) (k : ℕ) (x : Option 
         by u decided q h = rw (q, still_decided (join_of every) u) tt
         by u (these us) q h = absurd h
 
-    pub child_decides : (o : ℕ → Node) (b : Bool) → r₁.constant ≡ Some b → beq b every ≡ false → ChildrenRight n i left every k x z o None
+    pub child_decides : (o : ℕ → Node) (b : Bool) → r₁.constant ≡ Some b → beq b every ≡ false → ChildrenRight n left every k x z o None
     child_decides o b q apart = record {
       small = omega arith;
       few = omega arith;
@@ -187,7 +189,7 @@ module _ (n : ℕ → Node) (i left : ℕ) (every : Bool) (k : ℕ) (x : Option 
     }
 
     -- a constant is written over by the others
-    pub child_dropped : (b : Bool) → r₁.constant ≡ Some b → beq b every ≡ true → ChildrenRight n i left every k x z o₂ r₂
+    pub child_dropped : (b : Bool) → r₁.constant ≡ Some b → beq b every ≡ true → ChildrenRight n left every k x z o₂ r₂
     child_dropped b q same = record {
       small = omega (arith, R.small);
       few = omega (arith, R.few);
@@ -199,11 +201,11 @@ module _ (n : ℕ → Node) (i left : ℕ) (every : Bool) (k : ℕ) (x : Option 
     -- the child stands as it was written, and the others after it
     pub child_kept : (o : ℕ → Node) (c : Kids) → r₂ ≡ Some c → r₁.constant ≡ None → ((v : ℕ) → v < r₁.size → o v ≡ o₁ v) →
         ((v : ℕ) → v < c.size → o (r₁.size + v) ≡ o₂ v) →
-        ChildrenRight n i left every k x z o (Some (record { count = c.count + 1; size = r₁.size + c.size }))
+        ChildrenRight n left every k x z o (Some (record { count = c.count + 1; size = r₁.size + c.size }))
     unfolding Laid nodes
     child_kept o c is q before after = record {
-      small = omega (arith, F.small, R.small, ap size_kept is);
-      few = omega (arith, R.few, ap count_kept is);
+      small = omega (arith, F.small, R.small, ap size_left is);
+      few = omega (arith, R.few, ap count_left is);
       is = λ ts l e h.
           let a = found ts l e h in (
             rw (a.folds, kept_child (join_of every) a.u a.l (sym a.child.sorted ∙ q)) (by a.u a.l a.child (subst (Leaves a.l o₂ 0) is a.others)),
@@ -238,7 +240,7 @@ module _ (n : ℕ → Node) (size : ℕ) (is : size ≡ size_of (n 0)) (x : Opti
     is = λ t l fits wide end. let s = sized t n 0 l in absurd (omega arith);
   }
 
-  pub whole_folded : (y : Option Cut) (o' : List Node) (r : Kid) → size ≤ tree_room → tree_room ≤ length o → NodeRight n 0 size x y (node_at o') r →
+  pub whole_folded : (y : Option Cut) (o' : List Node) (r : Kid) → size ≤ tree_room → tree_room ≤ length o → NodeRight n size x y (node_at o') r →
       Folded n x o o' r.size
   whole_folded y o' r fits wide N = record {
     small = omega (arith, N.small);

@@ -60,13 +60,13 @@ Leaves decided o j (Some r) = ⊥
 Leaves (these us) o j None = ⊥
 Leaves (these us) o j (Some r) = These o j us r
 
-abbrev pub size_kept : Option Kids → ℕ
-size_kept None = 0
-size_kept (Some r) = r.size
+abbrev pub size_left : Option Kids → ℕ
+size_left None = 0
+size_left (Some r) = r.size
 
-abbrev pub count_kept : Option Kids → ℕ
-count_kept None = 0
-count_kept (Some r) = r.count
+abbrev pub count_left : Option Kids → ℕ
+count_left None = 0
+count_left (Some r) = r.count
 
 -- x is the cut before the part, y after it
 pub record EndRight (n : Node) (x y : Option Cut) (o : ℕ → Node) (r : Kid) : Type 0 where
@@ -76,15 +76,15 @@ pub record EndRight (n : Node) (x y : Option Cut) (o : ℕ → Node) (r : Kid) :
 
 -- of an `and` (every) or an `or`
 pub record ShutRight (every : Bool) (kept : Option Kids) (o₀ o : ℕ → Node) (r : Kid) : Type 0 where
-  pub small : r.size ≤ size_kept kept + 1
+  pub small : r.size ≤ size_left kept + 1
   pub is : (l : Left) → Leaves l o₀ 1 kept → KidIs o (close (join_of every) l) r
 
-pub record NodeRight (n : ℕ → Node) (i left : ℕ) (x y : Option Cut) (o : ℕ → Node) (r : Kid) : Type 0 where
+pub record NodeRight (n : ℕ → Node) (left : ℕ) (x y : Option Cut) (o : ℕ → Node) (r : Kid) : Type 0 where
   pub small : r.size ≤ left
-  pub is : (t : Tree) → Laid t n i → nodes t ≤ left → KidIs o (fold (cut t x)) r × (y ≡ past (live t) x)
+  pub is : (t : Tree) → Laid t n 0 → nodes t ≤ left → KidIs o (fold (cut t x)) r × (y ≡ past (live t) x)
 
-pub record ChildrenRight (n : ℕ → Node) (i left : ℕ) (every : Bool) (k : ℕ) (x y : Option Cut) (o : ℕ → Node) (r : Option Kids) : Type 0 where
-  pub small : size_kept r ≤ left
-  pub few : count_kept r ≤ left
-  pub is : (ts : Forest) → LaidAll ts n i → count ts ≡ k → nodes_all ts ≤ left →
+pub record ChildrenRight (n : ℕ → Node) (left : ℕ) (every : Bool) (k : ℕ) (x y : Option Cut) (o : ℕ → Node) (r : Option Kids) : Type 0 where
+  pub small : size_left r ≤ left
+  pub few : count_left r ≤ left
+  pub is : (ts : Forest) → LaidAll ts n 0 → count ts ≡ k → nodes_all ts ≤ left →
       Leaves (fold_all (cut_all ts x) (join_of every)) o 0 r × (y ≡ past (live_all ts) x)

@@ -1,6 +1,6 @@
 // Folds a condition's nodes, with one end cut to a constant or none: a node function calls a children function which calls the node
-// function, nodes left falling. What is folded goes to the rest of the output, which is no shorter than what is left to read. Where no tree
-// is laid out the walk still ends.
+// function, each with the rest of the nodes, nodes left falling. What is folded goes to the rest of the output, which is no shorter than
+// what is left to read. Where no tree is laid out the walk still ends.
 #![tactic(auto)]
 
 ghost use Rattle.std.specs.Prelude.{◌≡◌, ◌+◌, ◌≤◌, ◌<◌, length};
@@ -8,10 +8,10 @@ ghost use Rattle.condition.specs.Limits.{tree_room};
 ghost use Rattle.condition.specs.Meaning.{plain};
 ghost use Rattle.nodes.specs.Memory.{node_at};
 ghost use Rattle.folding.specs.Folded.{Folded};
-ghost use Rattle.folding.specs.Parts.{first_cut, past, size_kept, KidIs, EndRight, ShutRight, NodeRight, ChildrenRight};
+ghost use Rattle.folding.specs.Parts.{first_cut, past, size_left, KidIs, EndRight, ShutRight, NodeRight, ChildrenRight};
 
 use condition::TREE_ROOM;
-use nodes::{Node, node_at, size_at};
+use nodes::{Node, node_at, rest, size_at};
 
 // "one child left is that child"
 const ONE_LEFT: u32 = 1;
@@ -76,7 +76,7 @@ fn end(n: Node, cut: &mut Option<Cut>, out: &mut [Node]) -> Kid
 // A connective whose children that are left stand after node 0, or of which one decides it: a constant, the one child left, or the
 // connective of those left.
 fn shut(all: bool, kept: Option<Kids>, out: &mut [Node]) -> Kid
-    requires { (size_kept kept < length out.old) × (size_kept kept ≤ tree_room) }
+    requires { (size_left kept < length out.old) × (size_left kept ≤ tree_room) }
     ensures { ShutRight all kept (node_at out.old) (node_at out.new) result }
 {
     let Some(left) = kept else {
@@ -99,52 +99,52 @@ fn shut(all: bool, kept: Option<Kids>, out: &mut [Node]) -> Kid
     }
 }
 
-// The tree at i, of at most `left` nodes, folded.
+// The tree from node 0 on, of at most `left` nodes, folded.
 #[cycle(children_node)]
-fn node(ns: &[Node], i: usize, left: usize, cut: &mut Option<Cut>, out: &mut [Node]) -> Kid
-    requires { (1 ≤ left) × (i + left ≤ tree_room) × (left ≤ length out.old) }
-    ensures { NodeRight (node_at ns.now) i left cut.old cut.new (node_at out.new) result }
+fn node(ns: &[Node], left: usize, cut: &mut Option<Cut>, out: &mut [Node]) -> Kid
+    requires { (1 ≤ left) × (left ≤ tree_room) × (left ≤ length out.old) }
+    ensures { NodeRight (node_at ns.now) left cut.old cut.new (node_at out.new) result }
 {
-    match node_at(ns, i) {
+    match node_at(ns, 0) {
         Node::Plain(b) => put_constant(b, out),
         Node::Join(all, k, _) => {
-            let kept = children(ns, i + 1, left - 1, all, k, cut, &mut out[1..]);
+            let kept = children(rest(ns, 1), left - 1, all, k, cut, &mut out[1..]);
             shut(all, kept, out)
         }
         n => end(n, cut, out),
     }
 }
 
-// The k trees from i on, of at most `left` nodes together: those that are left, folded, or None where one decides. A constant is written
-// over by the next.
+// The k trees from node 0 on, of at most `left` nodes together: those that are left, folded, or None where one decides. A constant is
+// written over by the next.
 #[cycle(children_node)]
 fn children(
     ns: &[Node],
-    i: usize,
     left: usize,
     all: bool,
     k: u32,
     cut: &mut Option<Cut>,
     out: &mut [Node],
 ) -> Option<Kids>
-    requires { (i + left ≤ tree_room) × (left ≤ length out.old) }
-    ensures { ChildrenRight (node_at ns.now) i left all k cut.old cut.new (node_at out.new) result }
+    requires { (left ≤ tree_room) × (left ≤ length out.old) }
+    ensures { ChildrenRight (node_at ns.now) left all k cut.old cut.new (node_at out.new) result }
 {
-    let s = size_at(ns, i);
+    let s = size_at(ns, 0);
     if k == 0 || left < s {
         return Some(Kids { count: 0, size: 0 });
     }
-    let first = node(ns, i, s, cut, out);
+    let first = node(ns, s, cut, out);
+    let younger = rest(ns, s);
     match first.constant {
         None => {
-            let others = children(ns, i + s, left - s, all, k - 1, cut, &mut out[first.size..])?;
+            let others = children(younger, left - s, all, k - 1, cut, &mut out[first.size..])?;
             Some(Kids {
                 count: others.count + 1,
                 size: first.size + others.size,
             })
         }
         Some(b) => {
-            let others = children(ns, i + s, left - s, all, k - 1, cut, out)?;
+            let others = children(younger, left - s, all, k - 1, cut, out)?;
             if b == all { Some(others) } else { None }
         }
     }
@@ -159,5 +159,5 @@ pub fn fold(ns: &[Node], mut cut: Option<Cut>, out: &mut [Node]) -> usize
     if TREE_ROOM < n || out.len() < TREE_ROOM {
         return 0;
     }
-    node(ns, 0, n, &mut cut, out).size
+    node(ns, n, &mut cut, out).size
 }

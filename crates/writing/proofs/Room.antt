@@ -133,18 +133,6 @@ module _ {o : List ℕ} (g n : ℕ) (some : g ≡ 0 → ⊥) where
           };
         })
 
--- ---- the ways out of `group_count`
-
-pub counted_none : (g n : ℕ) → g ≡ 0 → (0 ≡ length (groups_of g n)) × (0 ≤ g)
-counted_none g n z = rw (no_groups g n z) (refl, omega arith)
-
-pub counted_short : (g n : ℕ) → (g ≡ 0 → ⊥) → n < group_size → (1 ≡ length (groups_of g n)) × (1 ≤ g)
-counted_short g n some h = rw (short_number g n some h) (refl, omega arith)
-
-pub counted_long : (g n : ℕ) {r : ℕ} → (g ≡ 0 → ⊥) → group_size ≤ n → (r ≡ length (groups_of (g - 1) (n / group_size))) × (r ≤ g - 1) →
-    (1 + r ≡ length (groups_of g n)) × (1 + r ≤ g)
-counted_long g n some h c = rw (long_number g n some h) (omega (arith, c.0), omega (arith, c.1))
-
 -- ---- the loop of `put_each`: a turn
 
 pub one_more : {o o₁ o₂ : List ℕ} (ns : List ℕ) (i n : ℕ) {a m b : ℕ} → i < length ns → n ≡ get_or ns i 0 → length o₁ ≡ length o → m ≡ length o₁ - a →

@@ -1,7 +1,7 @@
 -- The walk, one law a way out. A tree's bytes are its first node's own and then its children's, where an end has no children, so a node is
 -- written the same way whatever its kind; where nothing is left, or a child is longer than what is left, no tree is laid that fits.
 use Prim.Native.Nat.{ℕ, ◌+◌, ◌-◌, ◌≤◌, ◌<◌}
-use mathlib.Core.Path.{◌≡◌, refl, sym, ap, ◌∙◌}
+use mathlib.Core.Path.{◌≡◌, refl, sym, subst, ap, ◌∙◌}
 use mathlib.Core.List.{List, [], ◌++◌, append_assoc, append-nil}
 use native.Mathlib.Omega.{arith}
 use lib.ListN.{length}
@@ -12,7 +12,7 @@ use Rattle.nodes.specs.declared.Node.{Node}
 use Rattle.nodes.specs.declared.Node.TheVariants as node
 use Rattle.nodes.specs.Memory.{size_of, count_of}
 use Rattle.nodes.specs.Laid.{EndIs, nodes, nodes_all, Laid, LaidAll}
-use Rattle.nodes.proofs.Laws.{join_of_is_all, some_node, sized, at_none, at_more}
+use Rattle.nodes.proofs.Laws.{join_of_is_all, some_node, sized, at_none, at_more, rest_laid_all}
 use Rattle.writing.specs.Written.{own, Put, PutTree, PutAll, Wrote}
 use Rattle.writing.proofs.Room.{nothing, joined, within}
 
@@ -59,51 +59,55 @@ opened (join j ts) n i l =
 
 -- ---- the ways out of `node`
 
-pub nothing_left : {n : ℕ → Node} {i left : ℕ} {o : List ℕ} → left ≡ 0 → PutTree n i left o o 0
+pub nothing_left : {n : ℕ → Node} {left : ℕ} {o : List ℕ} → left ≡ 0 → PutTree n left o o 0
 nothing_left z = record { room = omega arith; tree = λ t l h. absurd (omega (arith, some_node t)) }
 
-pub node_put : (n : ℕ → Node) (i left : ℕ) (top : Node) (k : ℕ) (o o₁ o₂ : List ℕ) (a m b : ℕ)
-    → top ≡ n i → k ≡ count_of (n i) → length o₁ ≡ length o → m ≡ length o₁ - a
-    → Put o o₁ (own top) a → PutAll n (i + 1) (left - 1) k (mid_of a m o₁) o₂ b → PutTree n i left o (put_mid a m o₁ o₂) (a + b)
-node_put n i left top k o o₁ o₂ a m b here counted same whole first below =
+-- the nodes m are those after the first
+pub node_put : (n m : ℕ → Node) (left : ℕ) (top : Node) (k : ℕ) (o o₁ o₂ : List ℕ) (a part b : ℕ)
+    → top ≡ n 0 → k ≡ count_of (n 0) → ((x : ℕ) → m x ≡ n (1 + x)) → length o₁ ≡ length o → part ≡ length o₁ - a
+    → Put o o₁ (own top) a → PutAll m (left - 1) k (mid_of a part o₁) o₂ b → PutTree n left o (put_mid a part o₁ o₂) (a + b)
+node_put n m left top k o o₁ o₂ a part b here counted after same whole first below =
     record {
-      room = within o o₁ a m b same whole first.room below.room;
+      room = within o o₁ a part b same whole first.room below.room;
       tree = λ t l h.
-          let p = opened t n i l in
+          let p = opened t n 0 l in
           let size = p.size in
-          let kids = below.trees p.ts p.laid (p.many ∙ sym counted) (omega arith) in
-          rw (p.bytes_are, ← here) (joined o o₁ o₂ (own top) (bytes_all p.ts) a m b same whole first.stands kids);
+          let laid = rest_laid_all n m 1 after p.ts (subst (LaidAll p.ts n) (omega arith) p.laid) in
+          let kids = below.trees p.ts laid (p.many ∙ sym counted) (omega arith) in
+          rw (p.bytes_are, ← here) (joined o o₁ o₂ (own top) (bytes_all p.ts) a part b same whole first.stands kids);
     }
 
 -- ---- the ways out of `children`
 
-pub none_put : {n : ℕ → Node} {i left k : ℕ} {o : List ℕ} → k ≡ 0 → PutAll n i left k o o 0
+pub none_put : {n : ℕ → Node} {left k : ℕ} {o : List ℕ} → k ≡ 0 → PutAll n left k o o 0
 unfolding bytes_all
 none_put {k = k} {o = o} z = record { room = omega arith; trees = λ ts l e h. rw (at_none ts k e z) (nothing o) }
 
-module _ {n : ℕ → Node} {i left k s : ℕ} (some : k ≡ 0 → ⊥) (first : s ≡ size_of (n i)) where
-  pub too_long : {o : List ℕ} → left < s → PutAll n i left k o o 0
+module _ {n : ℕ → Node} {left k s : ℕ} (some : k ≡ 0 → ⊥) (first : s ≡ size_of (n 0)) where
+  pub too_long : {o : List ℕ} → left < s → PutAll n left k o o 0
   too_long long =
       record {
         room = omega arith;
         trees = λ ts l e h.
-            let f = at_more ts n i k e some l in
-            absurd (omega (arith, sized f.t n i f.laid));
+            let f = at_more ts n 0 k e some l in
+            absurd (omega (arith, sized f.t n 0 f.laid));
       }
 
-  pub more_put : (o o₁ o₂ : List ℕ) (a m b : ℕ) → s ≤ left → length o₁ ≡ length o → m ≡ length o₁ - a
-      → PutTree n i s o o₁ a → PutAll n (i + s) (left - s) (k - 1) (mid_of a m o₁) o₂ b → PutAll n i left k o (put_mid a m o₁ o₂) (a + b)
+  -- the nodes m are those after the first child
+  pub more_put : (m : ℕ → Node) (o o₁ o₂ : List ℕ) (a part b : ℕ) → ((x : ℕ) → m x ≡ n (s + x)) → s ≤ left → length o₁ ≡ length o
+      → part ≡ length o₁ - a → PutTree n s o o₁ a → PutAll m (left - s) (k - 1) (mid_of a part o₁) o₂ b
+      → PutAll n left k o (put_mid a part o₁ o₂) (a + b)
   unfolding bytes_all
-  more_put o o₁ o₂ a m b fits same whole child others =
+  more_put m o o₁ o₂ a part b after fits same whole child others =
       record {
-        room = within o o₁ a m b same whole child.room others.room;
+        room = within o o₁ a part b same whole child.room others.room;
         trees = λ ts l e h.
-            let f = at_more ts n i k e some l in
-            let size : s ≡ nodes f.t = first ∙ sized f.t n i f.laid in
-            let laid : LaidAll f.us n (i + s) = rw size f.others in
+            let f = at_more ts n 0 k e some l in
+            let size : s ≡ nodes f.t = first ∙ sized f.t n 0 f.laid in
+            let laid = rest_laid_all n m s after f.us (subst (LaidAll f.us n) (omega arith) f.others) in
             let elder = child.tree f.t f.laid (omega arith) in
             let younger = others.trees f.us laid f.many (omega arith) in
-            rw f.forest (joined o o₁ o₂ (bytes f.t) (bytes_all f.us) a m b same whole elder younger);
+            rw f.forest (joined o o₁ o₂ (bytes f.t) (bytes_all f.us) a part b same whole elder younger);
       }
 
 -- ---- the ways out of `write`
@@ -112,7 +116,7 @@ pub written_not : {t : Tree} {o : List ℕ} {r : ℕ} → r ≡ length (bytes t)
 written_not e h = record { long = e; here = λ f. absurd (omega arith); full = λ f. refl }
 
 pub written_here : {n : ℕ → Node} {left k r : ℕ} {t : Tree} {o o' : List ℕ}
-    → PutTree n 0 left o o' r → Laid t n 0 → nodes t ≤ left → k ≡ length (bytes t) → k ≤ length o → Wrote t o o' r
+    → PutTree n left o o' r → Laid t n 0 → nodes t ≤ left → k ≡ length (bytes t) → k ≤ length o → Wrote t o o' r
 written_here {t = t} {o = o} p l few q fits =
     let s = p.tree t l few in
     let long = s.long (omega arith) in

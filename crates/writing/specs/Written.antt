@@ -24,15 +24,15 @@ pub record Put (before after s : List ℕ) (r : ℕ) : Type 0 where
   pub room : r ≤ length before
   pub stands : Stands before after s r
 
--- the tree that stands from node i on, if that has at most `left` nodes
-pub record PutTree (n : ℕ → Node) (i left : ℕ) (before after : List ℕ) (r : ℕ) : Type 0 where
+-- the tree that stands from node 0 on, if that has at most `left` nodes
+pub record PutTree (n : ℕ → Node) (left : ℕ) (before after : List ℕ) (r : ℕ) : Type 0 where
   pub room : r ≤ length before
-  pub tree : (t : Tree) → Laid t n i → nodes t ≤ left → Stands before after (bytes t) r
+  pub tree : (t : Tree) → Laid t n 0 → nodes t ≤ left → Stands before after (bytes t) r
 
--- the k trees that stand from node i on, if those have at most `left` nodes together
-pub record PutAll (n : ℕ → Node) (i left k : ℕ) (before after : List ℕ) (r : ℕ) : Type 0 where
+-- the k trees that stand from node 0 on, if those have at most `left` nodes together
+pub record PutAll (n : ℕ → Node) (left k : ℕ) (before after : List ℕ) (r : ℕ) : Type 0 where
   pub room : r ≤ length before
-  pub trees : (ts : Forest) → LaidAll ts n i → count ts ≡ k → nodes_all ts ≤ left → Stands before after (bytes_all ts) r
+  pub trees : (ts : Forest) → LaidAll ts n 0 → count ts ≡ k → nodes_all ts ≤ left → Stands before after (bytes_all ts) r
 
 -- the answer of `needed`: the length of the tree that stands from node 0 on.
 pub record Needed (n : ℕ → Node) (r : ℕ) : Type 0 where

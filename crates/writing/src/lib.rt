@@ -1,20 +1,23 @@
 // Writes a condition's nodes as bytes: "each child into the room after its elder sibling". A node function writes a node's own bytes and
-// lends the rest of the output to a children function, which calls the node function; nodes left fall. Where no tree is laid out the
-// bytes mean nothing, and the walk still ends within the output.
+// hands on the rest of the nodes, and lends the rest of the output, to a children function, which calls the node function; nodes left
+// fall. Where no tree is laid out the bytes mean nothing, and the walk still ends within the output.
 #![tactic(auto)]
 
 ghost use Rattle.std.specs.Prelude.{◌≡◌, cond, ◌+◌, ◌*◌, ◌≤◌, length};
 ghost use Rattle.std.specs.List.{flat_map};
-ghost use Rattle.condition.specs.Limits.{last_tag, groups, tree_room};
+ghost use Rattle.condition.specs.Limits.{last_tag, groups};
 ghost use Rattle.condition.specs.Bytes.{groups_of, number, written};
 ghost use Rattle.nodes.specs.Memory.{node_at};
 ghost use Rattle.nodes.specs.Laid.{shifted};
 ghost use Rattle.writing.specs.Written.{own, Put, PutTree, PutAll, Needed, Written};
 
 use condition::{GROUP_SIZE, GROUPS, LARGEST_BOUND, TREE_ROOM};
-use nodes::{Node, count_at, node_at, size_at};
+use nodes::{Node, count_at, node_at, rest, size_at};
 
 const SIZE: u64 = GROUP_SIZE as u64;
+
+// The most bytes of a node without its children: four numbers.
+const OWN: usize = 4 * GROUPS as usize;
 
 // A number in at most `groups` groups of seven bits, the shortest form.
 fn put(out: &mut [u8], groups: u32, n: u64) -> usize
@@ -23,7 +26,7 @@ fn put(out: &mut [u8], groups: u32, n: u64) -> usize
     if groups == 0 {
         return 0;
     }
-    let Some((first, rest)) = out.split_first_mut() else {
+    let Some((first, others)) = out.split_first_mut() else {
         return 0;
     };
     if n < SIZE {
@@ -31,20 +34,7 @@ fn put(out: &mut [u8], groups: u32, n: u64) -> usize
         return 1;
     }
     *first = (SIZE + n % SIZE) as u8;
-    1 + put(rest, groups - 1, n / SIZE)
-}
-
-// How many bytes such a number takes.
-fn group_count(groups: u32, n: u64) -> usize
-    ensures { (result ≡ length (groups_of groups n)) × (result ≤ groups) }
-{
-    if groups == 0 {
-        0
-    } else if n < SIZE {
-        1
-    } else {
-        1 + group_count(groups - 1, n / SIZE)
-    }
+    1 + put(others, groups - 1, n / SIZE)
 }
 
 // Numbers, each after the one before it.
@@ -91,53 +81,42 @@ fn put_own(out: &mut [u8], node: Node) -> usize
     }
 }
 
-// The tree at i, of at most `left` nodes. That i + left is small keeps every sum below from wrapping.
-// i and `left`, and no part of ns: a tree may go past the end of ns, where each node is plain false.
+// The tree from node 0 on, of at most `left` nodes.
 #[cycle(children_node)]
-fn node(ns: &[Node], i: usize, left: usize, out: &mut [u8]) -> usize
-    requires { i + left ≤ tree_room }
-    ensures { PutTree (node_at ns.now) i left out.old out.new result }
+fn node(ns: &[Node], left: usize, out: &mut [u8]) -> usize
+    ensures { PutTree (node_at ns.now) left out.old out.new result }
 {
     if left == 0 {
         return 0;
     }
-    let a = put_own(out, node_at(ns, i));
-    let b = children(ns, i + 1, left - 1, count_at(ns, i), &mut out[a..]);
+    let a = put_own(out, node_at(ns, 0));
+    let b = children(rest(ns, 1), left - 1, count_at(ns, 0), &mut out[a..]);
     a + b
 }
 
-// The k trees from i on, of at most `left` nodes together.
+// The k trees from node 0 on, of at most `left` nodes together.
 #[cycle(children_node)]
-fn children(ns: &[Node], i: usize, left: usize, k: u32, out: &mut [u8]) -> usize
-    requires { i + left ≤ tree_room }
-    ensures { PutAll (node_at ns.now) i left k out.old out.new result }
+fn children(ns: &[Node], left: usize, k: u32, out: &mut [u8]) -> usize
+    ensures { PutAll (node_at ns.now) left k out.old out.new result }
 {
     if k == 0 {
         return 0;
     }
-    let s = size_at(ns, i);
+    let s = size_at(ns, 0);
     if left < s {
         return 0;
     }
-    let a = node(ns, i, s, out);
-    let b = children(ns, i + s, left - s, k - 1, &mut out[a..]);
+    let a = node(ns, s, out);
+    let b = children(rest(ns, s), left - s, k - 1, &mut out[a..]);
     a + b
 }
 
-// How many bytes a node takes without its children: a tag takes one.
+// How many bytes a node takes without its children: so many as are written to a room that holds any.
 fn own_length(node: Node) -> usize
     ensures { (result ≡ length (own node)) × (result ≤ 4 * groups) }
 {
-    match node {
-        Node::Plain(_) => 1,
-        Node::Join(_, k, _) => 1 + group_count(GROUPS, u64::from(k)),
-        Node::Flag(_, p) => 1 + group_count(GROUPS, u64::from(p)),
-        Node::Bound(_, x, y, w) => {
-            1 + group_count(GROUPS, u64::from(x))
-                + group_count(GROUPS, u64::from(y))
-                + group_count(GROUPS, bound(w))
-        }
-    }
+    let mut room = [0u8; OWN];
+    put_own(&mut room, node)
 }
 
 // How many bytes the tree that stands from node 0 on takes.
@@ -159,5 +138,5 @@ pub fn write(ns: &[Node], out: &mut [u8]) -> usize
     if out.len() < all {
         return all;
     }
-    node(ns, 0, TREE_ROOM, out)
+    node(ns, TREE_ROOM, out)
 }

@@ -1,7 +1,7 @@
 -- `folding::shut` meets its contract: each way out is a law of Puts.antt.
 use native.Mathlib.Omega.{arith}
 use mathlib.Core.Path.{ap}
-use Rattle.folding.specs.Parts.{size_kept}
+use Rattle.folding.specs.Parts.{size_left}
 use Rattle.folding.proofs.Puts.{shut_decided, shut_none, shut_one, shut_more}
 use Rattle.folding.proofs.shut.Goals as goal
 
@@ -15,10 +15,10 @@ returns-then-left-eq0 c =
 pub returns-then-left-eq-ONE_LEFT : goal.returns-then-left-eq-ONE_LEFT
 returns-then-left-eq-ONE_LEFT c =
     rw c.copy_within.ensures.after
-    (shut_one _ _ _ c.in-Some.is c.args.out.now c.if-left-eq-ONE_LEFT.true (omega (arith, ap size_kept c.in-Some.is)))
+    (shut_one _ _ _ c.in-Some.is c.args.out.now c.if-left-eq-ONE_LEFT.true (omega (arith, ap size_left c.in-Some.is)))
 
 pub overflow_cast-out : goal.overflow_cast-out
-overflow_cast-out c = omega (arith, ap size_kept c.in-Some.is)
+overflow_cast-out c = omega (arith, ap size_left c.in-Some.is)
 
 pub returns : goal.returns
 returns c = shut_more _ _ _ c.in-Some.is c.args.out.now c.if-left-eq0.false c.if-left-eq-ONE_LEFT.false (omega arith)

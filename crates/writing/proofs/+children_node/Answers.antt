@@ -13,7 +13,7 @@ children-returns-then-left-s t c =
 
 pub children-returns : goal.children-returns
 children-returns t c =
-    walk.more_put c.if-k-eq0.false c.size_at-s.ensures.0 _ _ _ _ _ _ c.if-left-s.false c.node-a.auto.out
+    walk.more_put c.if-k-eq0.false c.size_at-s.ensures.0 _ _ _ _ _ _ _ c.rest.ensures c.if-left-s.false c.node-a.auto.out
     refl c.node-a.ensures c.children-b.ensures
 
 pub node-returns-then-left-eq0 : goal.node-returns-then-left-eq0
@@ -21,5 +21,5 @@ node-returns-then-left-eq0 t c = walk.nothing_left c.if-left-eq0.true
 
 pub node-returns : goal.node-returns
 node-returns t c =
-    walk.node_put _ _ _ _ _ _ _ _ _ _ _ c.node_at.ensures c.count_at.ensures c.put_own-a.auto.out refl
+    walk.node_put _ _ _ _ _ _ _ _ _ _ _ c.node_at.ensures c.count_at.ensures c.rest.ensures c.put_own-a.auto.out refl
     c.put_own-a.ensures c.children-b.ensures
