@@ -4,10 +4,10 @@ use Rattle.condition.specs.Meaning.{Assignment, Join, Tree, Forest, count, holds
 use Rattle.nodes.specs.declared.Node.{Node}
 use Rattle.nodes.specs.Laid.{nodes, nodes_all, Laid, LaidAll}
 
--- r is whether a makes true the tree that stands from node i on, if that has at most `left` nodes
-pub record Judged (n : ℕ → Node) (i left : ℕ) (a : Assignment) (r : Bool) : Type 0 where
-  pub tree : (t : Tree) → Laid t n i → nodes t ≤ left → r ≡ holds t a
+-- r is whether a makes true the tree that stands from node 0 on, if that has at most `left` nodes
+pub record Judged (n : ℕ → Node) (left : ℕ) (a : Assignment) (r : Bool) : Type 0 where
+  pub tree : (t : Tree) → Laid t n 0 → nodes t ≤ left → r ≡ holds t a
 
--- r is the `and`, or the `or`, of the k trees that stand from node i on, if those have at most `left` nodes together
-pub record JudgedAll (n : ℕ → Node) (i left : ℕ) (j : Join) (k : ℕ) (a : Assignment) (r : Bool) : Type 0 where
-  pub trees : (ts : Forest) → LaidAll ts n i → count ts ≡ k → nodes_all ts ≤ left → r ≡ each ts j a
+-- r is the `and`, or the `or`, of the k trees that stand from node 0 on, if those have at most `left` nodes together
+pub record JudgedAll (n : ℕ → Node) (left : ℕ) (j : Join) (k : ℕ) (a : Assignment) (r : Bool) : Type 0 where
+  pub trees : (ts : Forest) → LaidAll ts n 0 → count ts ≡ k → nodes_all ts ≤ left → r ≡ each ts j a

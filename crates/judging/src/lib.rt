@@ -1,8 +1,8 @@
 // Judges a condition's nodes under an assignment: a node function calls a children function which calls the node function, nodes
-// left falling. Where no tree is laid out the answer means nothing, and the walk still ends.
+// left falling, the rest of the nodes handed on. Where no tree is laid out the answer means nothing, and the walk still ends.
 #![tactic(auto)]
 
-ghost use Rattle.std.specs.Prelude.{◌≡◌, List, cond, not, ℕ, ◌+◌, ◌^◌, ◌≤◌, ◌<◌, ℤ, pos, ◌-ℤ◌};
+ghost use Rattle.std.specs.Prelude.{◌≡◌, List, cond, not, ℕ, ◌^◌, ◌≤◌, ◌<◌, ℤ, pos, ◌-ℤ◌};
 ghost use Rattle.std.specs.Int.Signed.{mag};
 ghost use Rattle.condition.specs.Limits.{question_room};
 ghost use Rattle.condition.specs.Meaning.{value, is, at_most, met, joined, Tree, holds, given};
@@ -12,7 +12,7 @@ ghost use Rattle.judging.specs.Assigned.{assignment_of};
 ghost use Rattle.judging.specs.Judged.{Judged, JudgedAll};
 
 use condition::{LARGEST_BOUND, LAST_BOOLEAN, QUESTION_ROOM, Whole};
-use nodes::{Node, node_at, size_at};
+use nodes::{Node, node_at, rest, size_at};
 
 // Boolean bits, and numbers for the names from 1 on, in order.
 #[derive(Clone, Copy)]
@@ -63,39 +63,36 @@ pub fn both(all: bool, v: bool, u: bool) -> bool
     if all { v && u } else { v || u }
 }
 
-// The tree at i, of at most `left` nodes. That i + left is small keeps every sum below from wrapping.
-// i and `left`, and no part of ns: a tree may go past the end of ns, where each node is plain false.
+// The tree from node 0 on, of at most `left` nodes. `left` is no length of ns: a tree may go past the end, where each node is plain false.
 #[cycle(children_node)]
-fn node(ns: &[Node], i: usize, left: usize, a: Assignment<'_>) -> bool
-    requires { i + left ≤ question_room }
-    ensures { Judged (node_at ns.now) i left (assignment_of a.entry) result }
+fn node(ns: &[Node], left: usize, a: Assignment<'_>) -> bool
+    ensures { Judged (node_at ns.now) left (assignment_of a.entry) result }
 {
     if left == 0 {
         return false;
     }
-    match node_at(ns, i) {
+    match node_at(ns, 0) {
         Node::Plain(b) => b,
         Node::Flag(so, p) => turned(so, a.flag(p)),
         Node::Bound(so, x, y, w) => turned(so, a.at_most(x, y, w)),
-        Node::Join(all, k, _) => children(ns, i + 1, left - 1, all, k, a),
+        Node::Join(all, k, _) => children(rest(ns, 1), left - 1, all, k, a),
     }
 }
 
-// The k trees from i on, of at most `left` nodes together.
+// The k trees from node 0 on, of at most `left` nodes together.
 #[cycle(children_node)]
-fn children(ns: &[Node], i: usize, left: usize, all: bool, k: u32, a: Assignment<'_>) -> bool
-    requires { i + left ≤ question_room }
-    ensures { JudgedAll (node_at ns.now) i left (join_of all) k (assignment_of a.entry) result }
+fn children(ns: &[Node], left: usize, all: bool, k: u32, a: Assignment<'_>) -> bool
+    ensures { JudgedAll (node_at ns.now) left (join_of all) k (assignment_of a.entry) result }
 {
     if k == 0 {
         return all;
     }
-    let s = size_at(ns, i);
+    let s = size_at(ns, 0);
     if left < s {
         return false;
     }
-    let v = node(ns, i, s, a);
-    let u = children(ns, i + s, left - s, all, k - 1, a);
+    let v = node(ns, s, a);
+    let u = children(rest(ns, s), left - s, all, k - 1, a);
     both(all, v, u)
 }
 
@@ -103,5 +100,5 @@ fn children(ns: &[Node], i: usize, left: usize, all: bool, k: u32, a: Assignment
 pub fn judge(ns: &[Node], a: Assignment<'_>) -> bool
     ensures { (t : Tree) → Laid t (node_at ns.now) 0 → nodes t ≤ question_room → result ≡ holds t (assignment_of a.entry) }
 {
-    node(ns, 0, QUESTION_ROOM, a)
+    node(ns, QUESTION_ROOM, a)
 }

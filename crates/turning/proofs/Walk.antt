@@ -1,8 +1,8 @@
--- The walk, one law a way out. What the node at i says of the tree laid there (the nodes crate's laws) gives what is told of its ends from
+-- The walk, one law a way out. What node 0 says of the tree laid there (the nodes crate's laws) gives what is told of its ends from
 -- what the calls below marked; children are taken one after another, and after each those so far have their marks. Where nothing is left,
 -- or a child is longer than what is left, no tree is laid that fits.
 use Rattle.std.proofs.Common.{ℕ, ◌+◌, ◌-◌, ◌≤◌, ◌<◌, ◌≡◌, List, ◌++◌, Bool, true, false, cond, not, Option, Some, None, refl, sym, ap, ◌∙◌}
-use Rattle.std.proofs.Common.{length, get_or, take, arith}
+use Rattle.std.proofs.Common.{subst, length, get_or, take, arith}
 use Rattle.std.proofs.lemmas.List.{get_or-take, get_or_append_left, get_or-append_right}
 use mathlib.Core.Path.{ap₂}
 use Rattle.condition.specs.Limits.{question_room}
@@ -13,7 +13,7 @@ use Rattle.nodes.specs.declared.Node.{Node}
 use Rattle.nodes.specs.declared.Node.TheVariants as node
 use Rattle.nodes.specs.Memory.{size_of}
 use Rattle.nodes.specs.Laid.{shifted, join_of, flag_end, bound_end, nodes, nodes_all, Laid, LaidAll}
-use Rattle.nodes.proofs.Laws.{some_node, sized, at_plain, at_flag, at_bound, at_join, at_none, at_more}
+use Rattle.nodes.proofs.Laws.{some_node, sized, at_plain, at_flag, at_bound, at_join, at_none, at_more, rest_laid_all}
 use Rattle.judging.proofs.Ends.{flag_turned, bound_turned}
 use Rattle.turning.specs.Turned.{tells, tells_in, Ends, Marked, Turns, TurnsAll, Tells}
 use Rattle.turning.proofs.Telling.{leaves, join_tells, end_tells, last, onto, onto_last, onto_none, last_live, last_each, elder_tells, last_tells}
@@ -23,20 +23,20 @@ Marks = List (Option Bool)
 
 -- ---- a tree: nothing is left, or its node is x
 
-pub nothing_left : {n : ℕ → Node} {i left : ℕ} {a : Assignment} {m : Marks} {v : Bool} → left ≡ 0 → Turns n i left a v 0 m
+pub nothing_left : {n : ℕ → Node} {left : ℕ} {a : Assignment} {m : Marks} {v : Bool} → left ≡ 0 → Turns n left a v 0 m
 nothing_left z = record { few = omega arith; tree = λ t l h. absurd (omega (arith, some_node t)) }
 
-module _ {n : ℕ → Node} {i left : ℕ} {a : Assignment} {m : Marks} {x : Node} (here : x ≡ n i) where
-  pub plain_turned : {b : Bool} → x ≡ node.Plain b → Turns n i left a b 0 m
+module _ {n : ℕ → Node} {left : ℕ} {a : Assignment} {m : Marks} {x : Node} (here : x ≡ n 0) where
+  pub plain_turned : {b : Bool} → x ≡ node.Plain b → Turns n left a b 0 m
   unfolding holds live
   plain_turned {b} e =
       record {
         few = omega arith;
-        tree = λ t l h. rw (at_plain n i t b (sym here ∙ e) l) (record { is = refl; many = refl; marked = λ k u. absurd (omega arith) });
+        tree = λ t l h. rw (at_plain n 0 t b (sym here ∙ e) l) (record { is = refl; many = refl; marked = λ k u. absurd (omega arith) });
       }
 
-  end_turned : (o : End) {v value : Bool} {ends : ℕ} → ((t : Tree) → Laid t n i → t ≡ leaf o) → v ≡ met o a → (left ≡ 0 → ⊥) →
-      Ends v value ends m → Turns n i left a value ends m
+  end_turned : (o : End) {v value : Bool} {ends : ℕ} → ((t : Tree) → Laid t n 0 → t ≡ leaf o) → v ≡ met o a → (left ≡ 0 → ⊥) →
+      Ends v value ends m → Turns n left a value ends m
   unfolding holds live
   end_turned o {v} alone q some e =
       record {
@@ -49,31 +49,31 @@ module _ {n : ℕ → Node} {i left : ℕ} {a : Assignment} {m : Marks} {x : Nod
       }
 
   pub flag_marked : {so y v value : Bool} {p ends : ℕ} → x ≡ node.Flag so p → y ≡ met (is p) a → v ≡ cond so y (not y) →
-      (left ≡ 0 → ⊥) → Ends v value ends m → Turns n i left a value ends m
+      (left ≡ 0 → ⊥) → Ends v value ends m → Turns n left a value ends m
   flag_marked {so} {p = p} e q s some h =
-      end_turned (flag_end so p) (λ t l. at_flag n i t so p (sym here ∙ e) l)
+      end_turned (flag_end so p) (λ t l. at_flag n 0 t so p (sym here ∙ e) l)
       (s ∙ ap (λ z. cond so z (not z)) q ∙ flag_turned a so p) some h
 
   pub bound_marked : {so r v value : Bool} {y z w ends : ℕ} → x ≡ node.Bound so y z w → r ≡ met (at_most y z (shifted w)) a →
-      v ≡ cond so r (not r) → (left ≡ 0 → ⊥) → Ends v value ends m → Turns n i left a value ends m
+      v ≡ cond so r (not r) → (left ≡ 0 → ⊥) → Ends v value ends m → Turns n left a value ends m
   bound_marked {so} {y = y} {z} {w} e q s some h =
-      end_turned (bound_end so y z w) (λ t l. at_bound n i t so y z w (sym here ∙ e) l)
+      end_turned (bound_end so y z w) (λ t l. at_bound n 0 t so y z w (sym here ∙ e) l)
       (s ∙ ap (λ r. cond so r (not r)) q ∙ bound_turned a so y z w) some h
 
-  pub join_turned : {b value : Bool} {k s ends : ℕ} → x ≡ node.Join b k s → TurnsAll n (i + 1) (left - 1) b k a value ends m →
-      Turns n i left a value ends m
+  pub join_turned : {b value : Bool} {k s ends : ℕ} {n₁ : ℕ → Node} → x ≡ node.Join b k s → ((x : ℕ) → n₁ x ≡ n (1 + x)) →
+      TurnsAll n₁ (left - 1) b k a value ends m → Turns n left a value ends m
   unfolding holds nodes live
-  join_turned {b} {k = k} {s} e below =
+  join_turned {b} {k = k} {s} {n₁ = n₁} e from below =
       record {
         few = omega (arith, below.few);
         tree = λ t l h.
-            let p = at_join n i t b k s (sym here ∙ e) l in
+            let p = at_join n 0 t b k s (sym here ∙ e) l in
             let size : nodes t ≡ nodes_all p.ts + 1 = ap nodes p.tree in
-            let g = below.trees p.ts p.laid p.many (omega arith) in
+            let g = below.trees p.ts (rest_laid_all n n₁ 1 from p.ts p.laid) p.many (omega arith) in
             rw p.tree (record { is = g.is; many = g.many; marked = λ y u. g.marked y u ∙ sym (join_tells a (join_of b) p.ts y) });
       }
 
--- ---- the k trees from i on, one after another
+-- ---- the k trees from node 0 on, one after another
 
 unit_is : (b : Bool) → b ≡ unit (join_of b)
 unit_is true = refl
@@ -122,30 +122,25 @@ module _ (b : Bool) (a : Assignment) (ts : Forest) (t : Tree) (e f : ℕ) (m₁ 
             ∙ ap (λ k. tells_in (last ts t) (join_of b) k a) there);
       }
 
--- so far: the elder trees have their marks, and `todo` trees are left, from node `from` on
-pub record Elder (ts : Forest) (n : ℕ → Node) (b : Bool) (a : Assignment) (from rest todo : ℕ) (v : Bool) (e : ℕ) (m : Marks) :
-    Type 0 where
+-- so far: the elder trees have their marks, and `todo` trees are left, from node 0 of n on
+pub record Elder (ts : Forest) (n : ℕ → Node) (b : Bool) (a : Assignment) (unspent todo : ℕ) (v : Bool) (e : ℕ) (m : Marks) : Type 0 where
   pub elder : Forest
   pub left : Forest
   pub whole : ts ≡ onto elder left
-  pub laid : LaidAll left n from
+  pub laid : LaidAll left n 0
   pub many : count left ≡ todo
-  pub fits : nodes_all left ≤ rest
+  pub fits : nodes_all left ≤ unspent
   pub marked : Marked (each elder (join_of b) a) (live_all elder) (λ x. tells_in elder (join_of b) x a) v e m
 
-pub record Walked (n : ℕ → Node) (i left : ℕ) (b : Bool) (k : ℕ) (a : Assignment) (stop from done : ℕ) (v : Bool) (e : ℕ) (m : Marks) :
-    Type 0 where
-  pub sum : stop ≡ i + left
-  pub low : from ≤ stop
-  pub few : e + (stop - from) ≤ left
-  pub trees : (ts : Forest) → LaidAll ts n i → count ts ≡ k → nodes_all ts ≤ left → Elder ts n b a from (stop - from) (k - done) v e m
+pub record Walked (n : ℕ → Node) (left : ℕ) (b : Bool) (k : ℕ) (a : Assignment) (n₁ : ℕ → Node) (unspent done : ℕ) (v : Bool) (e : ℕ)
+    (m : Marks) : Type 0 where
+  pub few : e + unspent ≤ left
+  pub trees : (ts : Forest) → LaidAll ts n 0 → count ts ≡ k → nodes_all ts ≤ left → Elder ts n₁ b a unspent (k - done) v e m
 
-pub walked_none : {n : ℕ → Node} {i left : ℕ} {b : Bool} {k : ℕ} {a : Assignment} {m : Marks} → Walked n i left b k a (i + left) i 0 b 0 m
+pub walked_none : {n : ℕ → Node} {left : ℕ} {b : Bool} {k : ℕ} {a : Assignment} {m : Marks} → Walked n left b k a n left 0 b 0 m
 unfolding holds live
 walked_none {b = b} =
     record {
-      sum = refl;
-      low = omega arith;
       few = omega arith;
       trees = λ ts l c h.
           record {
@@ -159,10 +154,10 @@ walked_none {b = b} =
           };
     }
 
-module _ {n : ℕ → Node} {i left : ℕ} {b : Bool} {k : ℕ} {a : Assignment} {stop from done : ℕ} {v : Bool} {e : ℕ} {m₁ : Marks}
-    (walked : Walked n i left b k a stop from done v e m₁) where
+module _ {n : ℕ → Node} {left : ℕ} {b : Bool} {k : ℕ} {a : Assignment} {n₁ : ℕ → Node} {unspent done : ℕ} {v : Bool} {e : ℕ} {m₁ : Marks}
+    (walked : Walked n left b k a n₁ unspent done v e m₁) where
   -- no tree is left
-  pub all_walked : k ≤ done → TurnsAll n i left b k a v e m₁
+  pub all_walked : k ≤ done → TurnsAll n left b k a v e m₁
   all_walked z =
       record {
         few = omega (arith, walked.few);
@@ -174,32 +169,31 @@ module _ {n : ℕ → Node} {i left : ℕ} {b : Bool} {k : ℕ} {a : Assignment}
       }
 
   -- the next tree, of s nodes
-  module _ {s : ℕ} (some : done < k) (size : s ≡ size_of (n from)) where
-    pub too_long : stop - from < s → TurnsAll n i left b k a v e m₁
+  module _ {s : ℕ} (some : done < k) (size : s ≡ size_of (n₁ 0)) where
+    pub too_long : unspent < s → TurnsAll n left b k a v e m₁
     too_long long =
         record {
           few = omega (arith, walked.few);
           trees = λ ts l c h.
               let g = walked.trees ts l c h in
-              let f = at_more g.left n from (k - done) g.many (λ z. omega arith) g.laid in
+              let f = at_more g.left n₁ 0 (k - done) g.many (λ z. omega arith) g.laid in
               let fits = g.fits in
-              absurd (omega (arith, sized f.t n from f.laid, f.total));
+              absurd (omega (arith, sized f.t n₁ 0 f.laid, f.total));
         }
 
-    pub walked_one : {u p w q : Bool} {f : ℕ} {m₂ : Marks} (y₁ y z r : Marks) → s ≤ stop - from → Turns n from s a u f m₂ →
+    pub walked_one : {u p w q : Bool} {f : ℕ} {m₂ : Marks} {n₂ : ℕ → Node} (y₁ y z r : Marks) → s ≤ unspent → Turns n₁ s a u f m₂ →
+        ((x : ℕ) → n₂ x ≡ n₁ (s + x)) →
         ((k : ℕ) (d : Option Bool) → k < e → get_or y₁ k d ≡ get_or m₁ k d) → length y ≡ e → length z ≡ f →
         p ≡ leaves b u → ((k : ℕ) → get_or y k None ≡ cond p (get_or y₁ k None) None) →
         w ≡ leaves b v → ((k : ℕ) → get_or z k None ≡ cond w (get_or (take f m₂) k None) None) →
-        q ≡ joined (join_of b) v u → Walked n i left b k a stop (from + s) (done + 1) q (e + f) (y ++ (z ++ r))
-    walked_one {u} {f = f} {m₂ = m₂} y₁ y z r fits child kept y_long z_long p one w two q =
+        q ≡ joined (join_of b) v u → Walked n left b k a n₂ (unspent - s) (done + 1) q (e + f) (y ++ (z ++ r))
+    walked_one {u} {f = f} {m₂ = m₂} {n₂} y₁ y z r fits child from kept y_long z_long p one w two q =
         record {
-          sum = walked.sum;
-          low = omega arith;
           few = omega (arith, walked.few, child.few);
           trees = λ ts l c h.
               let g = walked.trees ts l c h in
-              let d = at_more g.left n from (k - done) g.many (λ z. omega arith) g.laid in
-              let long : s ≡ nodes d.t = size ∙ sized d.t n from d.laid in
+              let d = at_more g.left n₁ 0 (k - done) g.many (λ z. omega arith) g.laid in
+              let long : s ≡ nodes d.t = size ∙ sized d.t n₁ 0 d.laid in
               let one' : (k : ℕ) → get_or y k None ≡ cond (leaves b u) (get_or y₁ k None) None = rw (← p) one in
               let two' : (k : ℕ) → get_or z k None ≡ cond (leaves b v) (get_or (take f m₂) k None) None = rw (← w) two in
               let mine = child.tree d.t d.laid (omega arith) in
@@ -208,7 +202,7 @@ module _ {n : ℕ → Node} {i left : ℕ} {b : Bool} {k : ℕ} {a : Assignment}
                 elder = last g.elder d.t;
                 left = d.us;
                 whole = g.whole ∙ ap (onto g.elder) d.forest ∙ onto_last g.elder d.t d.us;
-                laid = rw long d.others;
+                laid = rest_laid_all n₁ n₂ s from d.us (subst (LaidAll d.us n₁) (omega arith) d.others);
                 many = omega (arith, d.many);
                 fits = omega (arith, d.total);
                 marked = all_marked b a g.elder d.t e f m₁ m₂ y₁ y z r g.marked mine kept y_long z_long one' two' q;
@@ -228,7 +222,7 @@ no_room {n} size h =
     }
 
 pub told : {n : ℕ → Node} {a : Assignment} {m m' : Marks} {s e : ℕ} {v : Bool} → s ≡ size_of (n 0) → s ≤ length m → length m' ≡ length m →
-    Turns n 0 s a v e m' → Tells n a m e m'
+    Turns n s a v e m' → Tells n a m e m'
 told {n} size room long h =
     record {
       few = omega (arith, h.few);

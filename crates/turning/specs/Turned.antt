@@ -30,16 +30,16 @@ pub record Marked (v : Bool) (n : ℕ) (f : ℕ → Option Bool) (value : Bool) 
   pub many : ends ≡ n
   pub marked : (k : ℕ) → k < n → get_or m' k None ≡ f k
 
--- the tree that stands from node i on, if that has at most `left` nodes
-pub record Turns (n : ℕ → Node) (i left : ℕ) (a : Assignment) (value : Bool) (ends : ℕ) (m' : List (Option Bool)) : Type 0 where
+-- the tree that stands from node 0 on, if that has at most `left` nodes
+pub record Turns (n : ℕ → Node) (left : ℕ) (a : Assignment) (value : Bool) (ends : ℕ) (m' : List (Option Bool)) : Type 0 where
   pub few : ends ≤ left
-  pub tree : (t : Tree) → Laid t n i → nodes t ≤ left → Marked (holds t a) (live t) (λ k. tells t k a) value ends m'
+  pub tree : (t : Tree) → Laid t n 0 → nodes t ≤ left → Marked (holds t a) (live t) (λ k. tells t k a) value ends m'
 
--- the k trees that stand from node i on, if those have at most `left` nodes together
-pub record TurnsAll (n : ℕ → Node) (i left : ℕ) (b : Bool) (k : ℕ) (a : Assignment) (value : Bool) (ends : ℕ) (m' : List (Option Bool)) :
+-- the k trees that stand from node 0 on, if those have at most `left` nodes together
+pub record TurnsAll (n : ℕ → Node) (left : ℕ) (b : Bool) (k : ℕ) (a : Assignment) (value : Bool) (ends : ℕ) (m' : List (Option Bool)) :
     Type 0 where
   pub few : ends ≤ left
-  pub trees : (ts : Forest) → LaidAll ts n i → count ts ≡ k → nodes_all ts ≤ left →
+  pub trees : (ts : Forest) → LaidAll ts n 0 → count ts ≡ k → nodes_all ts ≤ left →
       Marked (each ts (join_of b) a) (live_all ts) (λ x. tells_in ts (join_of b) x a) value ends m'
 
 pub record Tells (n : ℕ → Node) (a : Assignment) (m : List (Option Bool)) (ends : ℕ) (m' : List (Option Bool)) : Type 0 where

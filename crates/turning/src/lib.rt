@@ -1,17 +1,16 @@
 // One walk of a condition's nodes under an assignment tells for every end at once whether turning that end turns the root, which is
 // whether the end's critical constraint holds there. A node function calls a children function which calls the node function, nodes left
-// falling. Where no tree is laid out the marks mean nothing, and the walk still ends.
+// falling, the rest of the nodes handed on. Where no tree is laid out the marks mean nothing, and the walk still ends.
 #![tactic(auto)]
 
 ghost use Rattle.std.specs.Prelude.{◌≡◌, ℕ, ◌+◌, ◌≤◌, ◌<◌, cond, length, get_or};
-ghost use Rattle.condition.specs.Limits.{question_room};
 ghost use Rattle.nodes.specs.Memory.{node_at};
 ghost use Rattle.judging.specs.Assigned.{assignment_of};
 ghost use Rattle.turning.specs.Turned.{Ends, Turns, TurnsAll, Tells};
 
 use condition::QUESTION_ROOM;
 use judging::{Assignment, both, turned};
-use nodes::{Node, node_at, size_at};
+use nodes::{Node, node_at, rest, size_at};
 
 // What a walk saw: whether the trees are true, and how many ends they have, each of which now has its mark.
 #[derive(Clone, Copy)]
@@ -38,12 +37,12 @@ fn end(v: bool, marks: &mut [Option<bool>]) -> Seen
     Seen { value: v, ends: 1 }
 }
 
-// The tree at i, of at most `left` nodes: the marks of its ends stand first. That i + left is small keeps every sum below from wrapping.
-// i and `left`, and no part of ns: a tree may go past the end of ns, where each node is plain false.
+// The tree from node 0 on, of at most `left` nodes: the marks of its ends stand first. `left` is no length of ns: a tree may go past the
+// end, where each node is plain false.
 #[cycle(children_node)]
-fn node(ns: &[Node], i: usize, left: usize, a: Assignment<'_>, marks: &mut [Option<bool>]) -> Seen
-    requires { (i + left ≤ question_room) × (left ≤ length marks.old) }
-    ensures { Turns (node_at ns.now) i left (assignment_of a.entry) result.value result.ends marks.new }
+fn node(ns: &[Node], left: usize, a: Assignment<'_>, marks: &mut [Option<bool>]) -> Seen
+    requires { left ≤ length marks.old }
+    ensures { Turns (node_at ns.now) left (assignment_of a.entry) result.value result.ends marks.new }
 {
     if left == 0 {
         return Seen {
@@ -51,45 +50,45 @@ fn node(ns: &[Node], i: usize, left: usize, a: Assignment<'_>, marks: &mut [Opti
             ends: 0,
         };
     }
-    match node_at(ns, i) {
+    match node_at(ns, 0) {
         Node::Plain(b) => Seen { value: b, ends: 0 },
         Node::Flag(so, p) => end(turned(so, a.flag(p)), marks),
         Node::Bound(so, x, y, w) => end(turned(so, a.at_most(x, y, w)), marks),
-        Node::Join(all, k, _) => children(ns, i + 1, left - 1, all, k, a, marks),
+        Node::Join(all, k, _) => children(rest(ns, 1), left - 1, all, k, a, marks),
     }
 }
 
-// The k trees from i on, of at most `left` nodes together, one after another. An end of the elder ones turns them all only if the next
+// The k trees from node 0 on, of at most `left` nodes together, one after another. An end of the elder ones turns them all only if the next
 // leaves it to them, as a true one does under an `and` and a false one under an `or`; and so with an end of the next.
 #[cycle(children_node)]
 fn children(
     ns: &[Node],
-    i: usize,
     left: usize,
     all: bool,
     k: u32,
     a: Assignment<'_>,
     marks: &mut [Option<bool>],
 ) -> Seen
-    requires { (i + left ≤ question_room) × (left ≤ length marks.old) }
-    ensures { TurnsAll (node_at ns.now) i left all k (assignment_of a.entry) result.value result.ends marks.new }
+    requires { left ≤ length marks.old }
+    ensures { TurnsAll (node_at ns.now) left all k (assignment_of a.entry) result.value result.ends marks.new }
 {
-    let stop = i + left;
-    let mut from = i;
+    let mut younger = ns;
+    let mut unspent = left;
     let mut value = all;
     let mut ends = 0;
     for _ in 0..k {
-        let s = size_at(ns, from);
-        if stop - from < s {
+        let s = size_at(younger, 0);
+        if unspent < s {
             return Seen { value, ends };
         }
         let (elder, room) = marks.split_at_mut(ends);
-        let next = node(ns, from, s, a, room);
+        let next = node(younger, s, a, room);
         clear(turned(all, next.value), elder);
         clear(turned(all, value), &mut room[..next.ends]);
         value = both(all, value, next.value);
         ends += next.ends;
-        from += s;
+        younger = rest(younger, s);
+        unspent -= s;
     }
     Seen { value, ends }
 }
@@ -103,5 +102,5 @@ pub fn turn(ns: &[Node], a: Assignment<'_>, marks: &mut [Option<bool>]) -> usize
     if QUESTION_ROOM.min(marks.len()) < n {
         return 0;
     }
-    node(ns, 0, n, a, marks).ends
+    node(ns, n, a, marks).ends
 }

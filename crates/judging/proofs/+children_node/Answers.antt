@@ -12,7 +12,7 @@ children-returns-then-left-s t c =
 
 pub children-returns : goal.children-returns
 children-returns t c =
-    walk.more_judged c.if-k-eq0.false c.size_at-s.ensures.0 c.if-left-s.false c.node-v.ensures c.children-u.ensures c.both.ensures
+    walk.more_judged c.if-k-eq0.false c.size_at-s.ensures.0 c.if-left-s.false c.node-v.ensures c.rest.ensures c.children-u.ensures c.both.ensures
 
 pub node-returns-then-left-eq0 : goal.node-returns-then-left-eq0
 node-returns-then-left-eq0 t c = walk.nothing_left c.if-left-eq0.true
@@ -31,4 +31,4 @@ node-returns-in-Bound t c =
 
 pub node-returns-in-Join : goal.node-returns-in-Join
 node-returns-in-Join t c =
-    walk.join_judged c.node_at.ensures c.in-Join.is c.children.ensures
+    walk.join_judged c.node_at.ensures c.in-Join.is c.rest.ensures c.children.ensures

@@ -8,13 +8,13 @@ use Rattle.turning.proofs.+children_node.Goals as goal
 pub children-loop-init : goal.children-loop-init
 children-loop-init t c = walk.walked_none
 
-pub children-returns-then-stop-from : goal.children-returns-then-stop-from
-children-returns-then-stop-from t c = walk.too_long c.loop.invariant c.loop-test.true c.size_at-s.ensures.0 c.if-stop-from.true
+pub children-returns-then-unspent-s : goal.children-returns-then-unspent-s
+children-returns-then-unspent-s t c = walk.too_long c.loop.invariant c.loop-test.true c.size_at-s.ensures.0 c.if-unspent-s.true
 
 pub children-loop-preserved : goal.children-loop-preserved
 children-loop-preserved t c = let s = c.split_at_mut-elder.ensures in
-    walk.walked_one c.loop.invariant c.loop-test.true c.size_at-s.ensures.0 _ _ _ _ c.if-stop-from.false c.node-next.ensures s.by_index.0
-    (c.clear.auto.marks ∙ s.front_len) (c.clear-in-loop.auto.marks ∙ length-take-le _ _ (omega (arith, c.node-next.ensures.few)))
+    walk.walked_one c.loop.invariant c.loop-test.true c.size_at-s.ensures.0 _ _ _ _ c.if-unspent-s.false c.node-next.ensures c.rest-younger.ensures
+    s.by_index.0 (c.clear.auto.marks ∙ s.front_len) (c.clear-in-loop.auto.marks ∙ length-take-le _ _ (omega (arith, c.node-next.ensures.few)))
     c.turned.ensures c.clear.ensures c.turned-in-loop.ensures c.clear-in-loop.ensures c.both-value.ensures
 
 pub children-returns : goal.children-returns
@@ -35,4 +35,4 @@ node-returns-in-Bound t c =
     walk.bound_marked c.node_at.ensures c.in-Bound.is c.at_most.ensures c.turned-in-Bound.ensures c.if-left-eq0.false c.end-in-Bound.ensures
 
 pub node-returns-in-Join : goal.node-returns-in-Join
-node-returns-in-Join t c = walk.join_turned c.node_at.ensures c.in-Join.is c.children.ensures
+node-returns-in-Join t c = walk.join_turned c.node_at.ensures c.in-Join.is c.rest.ensures c.children.ensures

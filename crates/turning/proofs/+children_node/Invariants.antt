@@ -13,4 +13,4 @@ decreases-node l = 2 * l.left
 
 abbrev pub invariant-children-loop : goal.invariant-children-loop
 invariant-children-loop l =
-    Walked (node_at l.ns) l.i l.left l.all l.k (assignment_of l.a) l.stop l.from l.counter l.value l.ends l.marks
+    Walked (node_at l.ns) l.left l.all l.k (assignment_of l.a) (node_at l.younger) l.unspent l.counter l.value l.ends l.marks
