@@ -82,7 +82,7 @@ fn is_end(n: Node) -> bool
     matches!(n, Node::Flag(_, _) | Node::Bound(_, _, _, _))
 }
 
-// How many ends the first n nodes have.
+// How many ends the first n nodes have. (`filter` and `count` over the places: tried, the proof did not close.)
 fn ends(ns: &[Node], n: usize) -> usize
     ensures { result ≡ ends_from (node_at ns.now) 0 n }
 {
@@ -170,7 +170,7 @@ fn gather(ns: &[Node], end: usize, depth: u32, opposite: bool, out: &mut [Node])
 }
 
 // The question about end m, counted from 0, of the tree from node 0 on, or (true) about its opposite: its nodes are counted.
-// Without room for one node more than the tree's, nothing is written.
+// Without room for one node more than the tree's, nothing is written, and 0 says so: a question has a node, so a `None` would say no more.
 pub fn ask(ns: &[Node], m: usize, opposite: bool, out: &mut [Node]) -> usize
     ensures { Asks (node_at ns.now) m opposite out.old result out.new }
 {

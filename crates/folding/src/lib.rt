@@ -151,7 +151,7 @@ fn children(
 }
 
 // Folds the tree from node 0 on, an end of it first replaced by a constant, if there is a cut: the folded tree's nodes are written from
-// node 0 on. How many there are. An output shorter than a tree may be is left as it was.
+// node 0 on. How many there are. An output shorter than a tree may be is left as it was, and 0 says so: a folded tree has a node.
 pub fn fold(ns: &[Node], mut cut: Option<Cut>, out: &mut [Node]) -> usize
     ensures { Folded (node_at ns.now) cut out.old out.new result }
 {

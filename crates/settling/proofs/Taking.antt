@@ -208,7 +208,8 @@ module _ (n : ℕ → Node) (i : ℕ) (s : Settled) where
         and_taken w f.u f.rest f.same j.ts j.tree j.laid,
   )
 
-  pub take_or : (k below : ℕ) (ok : Bool) (r : Option ℕ) (s' : Settled) → n i ≡ node.Join false k below → Stacks s i ok s' → r ≡ then_some ok (i + 1 + below) → Takes n i s r s'
+  pub take_or : (k below : ℕ) (ok : Bool) (r : Option ℕ) (s' : Settled) → n i ≡ node.Join false k below →
+      Stacks s i ok s' → r ≡ then_some ok (i + 1 + below) → Takes n i s r s'
   take_or k below true r s' q h e = rw e (
     omega arith,
     λ us os w some.

@@ -21,5 +21,6 @@ loop-i-preserved c =
       simp length-set c.loop-i.invariant.0,
       below_more _ _
           (λ x h f. get_or-set_other c.loop-i.number-items c.loop-i.i x _ (pos 0) (λ e. omega arith) ∙ c.loop-i.invariant.1 x h f)
-          (λ f. get_or-set_same c.loop-i.number-items c.loop-i.i _ (pos 0) room ∙ to_z-of_z fit ∙ c.number.ensures.shown f ∙ ap (value (tightest f (distances c.args.self.now.table))) (omega arith)),
+          (λ f. get_or-set_same c.loop-i.number-items c.loop-i.i _ (pos 0) room ∙ to_z-of_z fit ∙ c.number.ensures.shown f ∙
+          ap (value (tightest f (distances c.args.self.now.table))) (omega arith)),
     )
