@@ -3,7 +3,7 @@
 // falling, the rest of the nodes handed on. Where no tree is laid out the marks mean nothing, and the walk still ends.
 #![tactic(auto)]
 
-ghost use Rattle.std.specs.Prelude.{◌≡◌, ℕ, ◌+◌, ◌≤◌, ◌<◌, cond, length, get_or};
+ghost use Rattle.std.specs.Prelude.{◌≡◌, ℕ, ◌≤◌, ◌<◌, cond, length, get_or};
 ghost use Rattle.nodes.specs.Memory.{node_at};
 ghost use Rattle.judging.specs.Assigned.{assignment_of};
 ghost use Rattle.turning.specs.Turned.{Ends, Turns, TurnsAll, Tells};
