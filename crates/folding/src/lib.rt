@@ -1,5 +1,5 @@
 // Folds a condition's nodes, with one end cut to a constant or none: a node function calls a children function which calls the node
-// function, each with the rest of the nodes, nodes left falling. What is folded goes to the rest of the output, which is no shorter than
+// function, each with the rest of the nodes, nodes left falling, as in judging. What is folded goes to the rest of the output, which is no shorter than
 // what is left to read. Where no tree is laid out the walk still ends.
 #![tactic(auto)]
 

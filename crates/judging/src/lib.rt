@@ -1,5 +1,6 @@
 // Judges a condition's nodes under an assignment: a node function calls a children function which calls the node function, nodes
-// left falling, the rest of the nodes handed on. Where no tree is laid out the answer means nothing, and the walk still ends.
+// left falling, the rest of the nodes handed on: the form that document 01 names for each walk. Where no tree is laid out the answer means
+// nothing, and the walk still ends.
 #![tactic(auto)]
 
 ghost use Rattle.std.specs.Prelude.{◌≡◌, List, cond, not, ℕ, ◌^◌, ◌≤◌, ◌<◌, ℤ, pos, ◌-ℤ◌};

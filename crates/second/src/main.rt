@@ -24,6 +24,7 @@ enum Answer {
     Refused,
 }
 
+// The other programs have the like, and this one shares nothing with them.
 fn print<W: Write>(out: &mut W, text: &[u8]) -> io::Result<()>
     ensures { OnOk result (Appends (W.contents out.old) (W.contents out.new) text.now) }
 {

@@ -67,6 +67,7 @@ pub struct Trimming {
     pub ends: u32,
 }
 
+// Each call's error has the cases that the call can have, and no others: so the bytes' refusal comes into each.
 impl From<Refusal> for JudgeRefusal {
     ghost from_gives = { λ why r. r ≡ judge_refusal.Bytes why };
 
@@ -154,7 +155,8 @@ pub fn bytes_written(trimmed: Result<Trimmed, TrimRefusal>) -> usize
     }
 }
 
-// Whether the condition written in tree is true where boolean p is the bit of weight 2^p of flags, and number x is numbers[x - 1].
+// Whether the condition written in tree is true where boolean p is the bit of weight 2^p of flags, and number x is numbers[x - 1]:
+// bits and numbers apart, as document 01 lists them and C lends them.
 pub fn judge(tree: &[u8], flags: u32, numbers: &[Whole]) -> Result<bool, JudgeRefusal>
     ensures { told result ≡ judged tree.now flags numbers.now }
 {

@@ -1,6 +1,6 @@
 // One walk of a condition's nodes under an assignment tells for every end at once whether turning that end turns the root, which is
 // whether the end's critical constraint holds there. A node function calls a children function which calls the node function, nodes left
-// falling, the rest of the nodes handed on. Where no tree is laid out the marks mean nothing, and the walk still ends.
+// falling, the rest of the nodes handed on, as in judging. Where no tree is laid out the marks mean nothing, and the walk still ends.
 #![tactic(auto)]
 
 ghost use Rattle.std.specs.Prelude.{◌≡◌, ℕ, ◌≤◌, ◌<◌, cond, length, get_or};

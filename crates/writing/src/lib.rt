@@ -1,6 +1,6 @@
 // Writes a condition's nodes as bytes: "each child into the room after its elder sibling". A node function writes a node's own bytes and
-// hands on the rest of the nodes, and lends the rest of the output, to a children function, which calls the node function; nodes left
-// fall. Where no tree is laid out the bytes mean nothing, and the walk still ends within the output.
+// hands on the rest of the nodes, and lends the rest of the output, to a children function, which calls the node function, as in judging;
+// nodes left fall. Where no tree is laid out the bytes mean nothing, and the walk still ends within the output.
 #![tactic(auto)]
 
 ghost use Rattle.std.specs.Prelude.{◌≡◌, cond, ◌+◌, ◌*◌, ◌≤◌, length};
