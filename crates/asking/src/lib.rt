@@ -26,7 +26,7 @@ struct Wrote {
     trees: usize,
 }
 
-// The first nodes, as many as the output has.
+// The first nodes, as many as the output has: past the end each is plain false, so no `copy_from_slice`.
 fn copy(ns: &[Node], out: &mut [Node])
     ensures { (x : ℕ) → x < length out.old → node_at out.new x ≡ node_at ns.now x }
 {
@@ -185,7 +185,7 @@ pub fn ask(ns: &[Node], m: usize, opposite: bool, out: &mut [Node]) -> usize
     r.size + 1
 }
 
-// How many ends the tree from node 0 on has, constants aside.
+// How many ends the tree from node 0 on has, constants aside. No caller has a tree beyond the room, for which 0 is within the bound.
 pub fn live(ns: &[Node]) -> usize
     ensures { Lives (node_at ns.now) result }
 {

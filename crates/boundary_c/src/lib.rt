@@ -1,4 +1,5 @@
-// The calls of the C boundary as C links them: each export is the call of the same name, with the same contract.
+// The calls of the C boundary as C links them: each export is the call of the same name, with the same contract: a twin
+// of each, since C links names that are exported.
 #![tactic(auto)]
 
 ghost use Rattle.travelring.specs.Judging.{judged};

@@ -1,6 +1,6 @@
-// The table of tightest differences between all sixteen numbers. Entry i * 16 + j bounds the difference of numbers i and j and is kept
-// with an offset, so that none is negative. A table starts from the range that holds a satisfying assignment if there is one at all,
-// so no entry is infinite.
+// The table of tightest differences between all sixteen numbers, 256 in one array by value, as document 01 names them. Entry i * 16 + j
+// bounds the difference of numbers i and j and is kept with an offset, so that none is negative. A table starts from the range that holds a
+// satisfying assignment if there is one at all, so no entry is infinite.
 #![tactic(auto)]
 
 ghost use Rattle.std.specs.Prelude.{◌≡◌, ◌+◌, ◌-◌, ◌*◌, ◌≤◌, ◌<◌, min, pos, ◌-ℤ◌};

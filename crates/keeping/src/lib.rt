@@ -20,8 +20,7 @@ const KEPT: usize = 32;
 const QUESTIONS: usize = 2 * QUESTION_ROOM;
 
 // The first `many` of `found` are kept (an array and a count, since nothing is allocated), and the tree has been walked under the first
-// `tried` of these. `known` says which questions about
-// it are known to be answered no, which is all that contracts see.
+// `tried` of these. `known` says which questions about it are known to be answered no, which is all that contracts see.
 #[derive(Drop)]
 pub struct Kept {
     found: [Found; KEPT],
@@ -106,7 +105,7 @@ impl Kept {
     }
 
     // Whether question q about the tree that stands from node 0 on is answered yes: question one of end q / 2, counted from 0, or if q is odd
-    // question two.
+    // question two. A question is told by its number in the sweep's order, as the definition `numbered` has it.
     pub fn answer(&mut self, ns: &[Node], q: usize) -> bool
         requires { q < questions }
         ensures { Replies (node_at ns.now) q self.old result self.new }

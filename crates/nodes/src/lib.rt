@@ -44,7 +44,7 @@ pub fn rest(ns: &[Node], i: usize) -> &[Node]
     &ns[i.min(ns.len())..]
 }
 
-// Puts a node at i; past the end it puts nothing.
+// Puts a node at i; past the end it puts nothing. (With `get_mut`: tried, the proof did not close.)
 pub fn put_node(ns: &mut [Node], i: usize, n: Node)
     ensures { ns.new ≡ set ns.old i n }
 {

@@ -45,7 +45,7 @@ fn is_redundant(tree: &Tree, i: usize) -> bool
     !differ(tree, &made(tree, i, true)) || !differ(tree, &made(tree, i, false))
 }
 
-// Which end, counted from 1, is the first that is redundant.
+// Which end, counted from 1, is the first that is redundant. Ends are counted apart from nodes, as constants and joins stand between them.
 fn first_redundant(tree: &Tree) -> Option<usize> {
     let mut end = 0;
     for (i, node) in tree.iter().enumerate() {
@@ -137,6 +137,7 @@ fn check_line(out: &mut impl Write, line: &[u8]) -> io::Result<()> {
     print(out, b"\n")
 }
 
+// lines has the like, which this program does not share.
 fn check_lines(out: &mut impl Write, text: &[u8]) -> io::Result<()> {
     for line in text.split_inclusive(|c| *c == b'\n') {
         check_line(out, line.strip_suffix(b"\n").unwrap_or(line))?;
@@ -145,7 +146,7 @@ fn check_lines(out: &mut impl Write, text: &[u8]) -> io::Result<()> {
 }
 
 // Reads until the text is full or the input ends, and says how many bytes were read, as `Read::read` does: the promises are about these. (No
-// `for`: how many bytes a read brings is for the input to say.)
+// `for`: how many bytes a read brings is for the input to say. typed has the like, which this program does not share.)
 fn read_full<R: Read>(input: &mut R, text: &mut [u8]) -> io::Result<usize>
     ensures bound { IfOk result (λ n. n ≤ length text.new) }
     ensures bytes { IfOk result (λ n. Consumes (R.remaining input.old) (R.remaining input.new) (take n text.new)) }

@@ -17,7 +17,7 @@ pub struct Found {
     pub numbers: [Whole; ASSIGNED],
 }
 
-// An assignment that makes the tree laid from node 0 true, if there is one.
+// An assignment that makes the tree laid from node 0 true, if there is one. No caller has a tree beyond the room, which is not searched.
 pub fn find(ns: &[Node]) -> Option<Found>
     ensures { Finds (node_at ns.now) result }
 {

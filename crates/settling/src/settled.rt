@@ -132,7 +132,7 @@ impl Settled {
         numbers
     }
 
-    // One child of each `or` that waits made true. `left` falls with each guess and never runs out.
+    // One child of each `or` that waits made true. `left` falls with each guess and never runs out, and no tree laid out goes beyond the room.
     #[cycle(attempt_guess)]
     pub fn guess(&self, ns: &[Node], left: usize) -> Option<Found>
         ensures { Guesses (node_at ns.now) self.now left result }

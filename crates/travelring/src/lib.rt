@@ -167,7 +167,8 @@ pub fn judge(tree: &[u8], flags: u32, numbers: &[Whole]) -> Result<bool, JudgeRe
     Ok(judging::judge(&ns, Assignment { flags, numbers }))
 }
 
-// An assignment that makes the condition written in tree true: its numbers are written, its boolean bits returned.
+// An assignment that makes the condition written in tree true: its numbers are written, its boolean bits returned,
+// apart as in judge.
 pub fn find(tree: &[u8], numbers: &mut [Whole]) -> Result<u32, FindRefusal>
     ensures { Finds tree.now numbers.old result numbers.new }
 {

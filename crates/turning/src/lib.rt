@@ -94,7 +94,8 @@ fn children(
 }
 
 // Marks each end of the tree that stands from node 0 on, from the first mark on, and counts them: Some(v) if it is v and turns the root,
-// None if it doesn't turn it. Without a mark for each node of the tree, nothing is marked: no end is.
+// None if it doesn't turn it. Without a mark for each node of the tree, nothing is marked,
+// and 0 is the number of marks.
 pub fn turn(ns: &[Node], a: Assignment<'_>, marks: &mut [Option<bool>]) -> usize
     ensures { Tells (node_at ns.now) (assignment_of a.entry) marks.old result marks.new }
 {

@@ -106,7 +106,8 @@ impl<'a> Line<'a> {
         Ok(digit as u8)
     }
 
-    // The condition's bytes, up to the part's end. More than there is room for are not understood.
+    // The condition's bytes, up to the part's end. More than there is room for are not understood. (Beyond the last byte there is one turn more,
+    // in which the part must end; so it goes over counts, and not over the room.)
     pub fn tree<'t>(&mut self, room: &'t mut [u8]) -> Result<&'t [u8], Stuck>
         ensures { IfOk result (λ bytes. length bytes.now ≤ length room.old) }
     {

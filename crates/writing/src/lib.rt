@@ -66,7 +66,7 @@ fn bound(w: u32) -> u64
     2 * u64::from(w - LARGEST_BOUND)
 }
 
-// A node without its children.
+// A node without its children: tags as document 01's table has them.
 fn put_own(out: &mut [u8], node: Node) -> usize
     ensures { Put out.old out.new (own node) result }
 {
@@ -111,7 +111,8 @@ fn children(ns: &[Node], left: usize, k: u32, out: &mut [u8]) -> usize
     a + b
 }
 
-// How many bytes a node takes without its children: so many as are written to a room that holds any.
+// How many bytes a node takes without its children: so many as are written to a room that holds any, since a count of its
+// own would say a node's numbers a second time.
 fn own_length(node: Node) -> usize
     ensures { (result ≡ length (own node)) × (result ≤ 4 * groups) }
 {

@@ -17,8 +17,5 @@ returns-then-left-eq-ONE_LEFT c =
     rw c.copy_within.ensures.after
     (shut_one _ _ _ c.in-Some.is c.args.out.now c.if-left-eq-ONE_LEFT.true (omega (arith, ap size_left c.in-Some.is)))
 
-pub overflow_cast-out : goal.overflow_cast-out
-overflow_cast-out c = omega (arith, ap size_left c.in-Some.is)
-
 pub returns : goal.returns
 returns c = shut_more _ _ _ c.in-Some.is c.args.out.now c.if-left-eq0.false c.if-left-eq-ONE_LEFT.false (omega arith)

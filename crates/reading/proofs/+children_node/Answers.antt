@@ -7,12 +7,6 @@ use Rattle.reading.proofs.Equations as eq
 use Rattle.reading.proofs.Ways as ways
 use Rattle.reading.proofs.+children_node.Goals as goal
 
-pub children-loop-owed-init : goal.children-loop-owed-init
-children-loop-owed-init t c = ways.begins _ _ _ _ c.requires
-
-pub children-node-requires : goal.children-node-requires
-children-node-requires t c = omega (arith, c.decreases, c.loop-owed.invariant.may, c.loop-owed.invariant.on)
-
 pub children-returns-in_err-child : goal.children-returns-in_err-child
 children-returns-in_err-child t c =
     let p = err_from_is_err_and c.from_residual.result c.from_residual.ensures.1 in

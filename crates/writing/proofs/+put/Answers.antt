@@ -5,9 +5,6 @@ use Rattle.writing.proofs.+put.Goals as goal
 pub returns-then-groups-eq0 : goal.returns-then-groups-eq0
 returns-then-groups-eq0 t c = room.put_none _ _ _ c.if-groups-eq0.true
 
-pub returns-in_default : goal.returns-in_default
-returns-in_default t c = room.put_full _ _ c.if-groups-eq0.false c.in_default.ensures.cases
-
 pub returns-then-n-lt-SIZE : goal.returns-then-n-lt-SIZE
 returns-then-n-lt-SIZE t c = room.put_short _ _ c.if-groups-eq0.false c.in-Some.ensures.cases.0 c.if-n-lt-SIZE.true
 
