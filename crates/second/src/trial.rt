@@ -23,7 +23,9 @@ const HIGH: u32 = 100000000;
 // Room for two trees, each from its place on.
 const BOTH: usize = 2 * MOST_NODES;
 
-// The part of the trees from a node on: its value, or the first end that can still change it; and where the next part begins.
+// The part of the trees from a node on: its value, or the first end that can still change it; and where the next part begins. (That an end is
+// a place within both trees is said of a plain number in each contract: it is handed on inside a `Result`, where a type of its own would only
+// be taken apart and put together again.)
 #[derive(Clone, Copy)]
 struct Part {
     value: Result<bool, usize>,
