@@ -13,7 +13,13 @@ const PRESET: Whole = 7;
 
 fn print_shown(out: &mut impl Write, tree: &[u8], bits: u32, numbers: &[Whole]) -> io::Result<()> {
     let judged = Judgement::from(travelring::judge(tree, bits, numbers));
-    write!(out, " judged {}", judged.value)?;
+    // In one write, as judge's value.
+    let value = if judged.value {
+        " judged true"
+    } else {
+        " judged false"
+    };
+    write!(out, "{value}")?;
     // Document 01 bounds each number that is written.
     if !numbers.iter().all(|n| n.unsigned_abs() <= FARTHEST) {
         print(out, b" out of range")?;

@@ -11,6 +11,8 @@ pub fn answer(out: &mut impl Write, mut line: Line<'_>, tree: &[u8]) -> Result<(
     let mut room = [0; MOST_NUMBERS];
     let numbers = line.numbers(&mut room)?;
     let told = Judgement::from(travelring::judge(tree, flags, numbers));
-    write!(out, "{} {} {}", told.answer, told.place, told.value)?;
+    // The value goes out whole, in one write with the space before it.
+    let value = if told.value { " true" } else { " false" };
+    write!(out, "{} {}{value}", told.answer, told.place)?;
     Ok(())
 }

@@ -6,7 +6,7 @@ mod read;
 mod text;
 mod trial;
 
-ghost use Rattle.std.specs.Prelude.{◌≤◌, ◌<◌, length, take, IfOk, OnOk};
+ghost use Rattle.std.specs.Prelude.{◌≤◌, ◌<◌, length, take, IfOk, IfSome, OnOk};
 ghost use Rattle.std.specs.Io.KnownBytes.{Appends, Consumes, IsAtEnd};
 
 use read::{MOST_NODES, Node, Tree, read_tree};
@@ -32,21 +32,23 @@ fn print<W: Write>(out: &mut W, text: &[u8]) -> io::Result<()>
 }
 
 // The ends, constants aside.
-fn count_ends(tree: &Tree) -> usize {
+fn count_ends(tree: &Tree) -> usize
+    ensures { result ≤ MOST_NODES }
+{
     tree.iter()
         .filter(|node| matches!(node, Node::End(_)))
         .count()
 }
 
 // Document 000, definition 5: an end is redundant if making it true, or making it false, changes the value under no assignment.
-fn is_redundant(tree: &Tree, i: usize) -> bool
-    requires { i < MOST_NODES }
-{
+fn is_redundant(tree: &Tree, i: usize) -> bool {
     !differ(tree, &made(tree, i, true)) || !differ(tree, &made(tree, i, false))
 }
 
 // Which end, counted from 1, is the first that is redundant. Ends are counted apart from nodes, as constants and joins stand between them.
-fn first_redundant(tree: &Tree) -> Option<usize> {
+fn first_redundant(tree: &Tree) -> Option<usize>
+    ensures { IfSome result (λ end. end ≤ MOST_NODES) }
+{
     let mut end = 0;
     for (i, node) in tree.iter().enumerate() {
         if let Node::End(_) = node {

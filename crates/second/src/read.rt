@@ -1,6 +1,6 @@
 // Reads a condition's bytes from their hex digits, in a form of its own. An `and` of k children stands as k - 1 of two, one after the
 // other. Every end says x <= y + c of two names: the booleans are named after the numbers, and are 0 or 1.
-ghost use Rattle.std.specs.Prelude.{◌+◌, ◌≤◌, ◌<◌, IfSome};
+ghost use Rattle.std.specs.Prelude.{◌+◌, ◌≤◌, ◌<◌, nat_abs, IfSome};
 ghost use Rattle.second.specs.declared.read.TheConstants.{NAMES};
 
 use crate::text::cut;
@@ -110,7 +110,9 @@ impl Bytes<'_> {
     }
 
     // 1 <= p.
-    fn boolean(&mut self) -> Option<AtMost> {
+    fn boolean(&mut self) -> Option<AtMost>
+        ensures { IfSome result (λ end. nat_abs end.c ≤ 1000000) }
+    {
         let p = self.below(BOOLEANS)?;
         Some(AtMost {
             x: 0,
@@ -120,7 +122,9 @@ impl Bytes<'_> {
     }
 
     // c is written as 2c, or as -2c - 1 if it is below 0.
-    fn difference(&mut self) -> Option<AtMost> {
+    fn difference(&mut self) -> Option<AtMost>
+        ensures { IfSome result (λ end. nat_abs end.c ≤ 1000000) }
+    {
         let x = self.below(NUMBERS)?;
         let y = self.below(NUMBERS)?;
         let written = self.below(HIGHEST_BOUND + 1)?;

@@ -189,11 +189,11 @@ pub fn differ(a: &Tree, b: &Tree) -> bool {
     trial.some(BOTH)
 }
 
-// The tree with node i made true or false.
-pub fn made(tree: &Tree, i: usize, so: bool) -> Tree
-    requires { i < MOST_NODES }
-{
+// The tree with node i made true or false. A tree has nothing past its room to be made so.
+pub fn made(tree: &Tree, i: usize, so: bool) -> Tree {
     let mut other = *tree;
-    other[i] = Node::Constant(so);
+    if i < MOST_NODES {
+        other[i] = Node::Constant(so);
+    }
     other
 }
