@@ -14,6 +14,8 @@ pub fn answer(ns: &[Node], at: usize, second: bool) -> Option<Found>
     ensures { Answers (node_at ns.now) at second result }
 {
     let mut question = [Node::Plain(false); QUESTION_ROOM];
+    // Where no question is written, as of an end that is not there, plain true stands for it, and is answered no: then nothing is cut.
+    question[0] = Node::Plain(true);
     asking::ask(ns, at, !second, &mut question);
     settling::find(&question)
 }

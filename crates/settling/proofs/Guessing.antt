@@ -1,6 +1,6 @@
 -- What each way out of `guess`, `attempt` and `find` shows. With no `or` left, the table's own assignment finishes the work. A child that
 -- fails rules itself out, so what is left to try is the others. From the range to all whole numbers goes the small-model fact.
-use Prim.Native.Nat.{ℕ, zero, suc, ◌+◌, ◌-◌, ◌≤◌, ◌<◌}
+use Prim.Native.Nat.{ℕ, zero, suc, ◌+◌, ◌-◌, ◌*◌, ◌≤◌, ◌<◌}
 use mathlib.Core.Path.{◌≡◌, refl, sym, subst, ap, ◌∙◌}
 use mathlib.Core.List.{List, [], ◌∷◌}
 use mathlib.Core.Logic.{◌↔◌}
@@ -77,30 +77,26 @@ guess_done n s left z size bits numbers h shows os w few time = by os w
 -- ---- guess: the `or` on top, child by child
 
 -- what is left to try: k trees from node `from` on, in place of the `or`s os
-pub record Rest (n : ℕ → Node) (s : Settled) (left from k : ℕ) (os : List Tree) : Type 0 where
+pub record Rest (n : ℕ → Node) (s : Settled) (spare from k : ℕ) (os : List Tree) : Type 0 where
   pub us : Forest
   pub under : List Tree
   pub work : Work n from us s.ors (s.many - 1) under
   pub many : count us ≡ k
-  pub time : bulk under + nodes_all us < left
+  pub time : 3 * (bulk under + nodes_all us) + 3 < spare
   pub same : (a : Assignment) → Chosen s us under a ↔ Done s none os a
 
-pub record Left (n : ℕ → Node) (s : Settled) (left from k : ℕ) : Type 0 where
+pub record Left (n : ℕ → Node) (s : Settled) (left spare from k : ℕ) : Type 0 where
   pub small : from ≤ 256
-  pub rest : (os : List Tree) → Waits os n s.ors s.many → bulk os ≤ question_room → bulk os ≤ left → Rest n s left from k os
+  pub falls : spare ≤ left
+  pub rest : (os : List Tree) → Waits os n s.ors s.many → bulk os ≤ question_room → 3 * bulk os < left → Rest n s spare from k os
 
 module _ (n : ℕ → Node) (s : Settled) (left : ℕ) where
-  pub guess_late : (s.many ≡ 0 → ⊥) → left ≡ 0 → Guesses n s left None
-  unfolding Waits bulk
-  guess_late nz z [] w few time = absurd (nz w)
-  guess_late nz z (u ∷ os) w few time = absurd (omega (arith, some_node u))
-
   pub guess_begun : (s.many ≡ 0 → ⊥) → (top k : ℕ) → top < 256 → top ≡ get_or s.ors (s.many - 1) 0 → k ≡ count_of (n top) →
-      Left n s left (top + 1) k
+      Left n s left left (top + 1) k
   unfolding Waits owed bulk nodes holds
-  guess_begun nz top k small et ek = record { small = omega arith; rest = by }
+  guess_begun nz top k small et ek = record { small = omega arith; falls = omega arith; rest = by }
     where
-      by : (os : List Tree) → Waits os n s.ors s.many → bulk os ≤ question_room → bulk os ≤ left → Rest n s left (top + 1) k os
+      by : (os : List Tree) → Waits os n s.ors s.many → bulk os ≤ question_room → 3 * bulk os < left → Rest n s left (top + 1) k os
       by [] w few time = absurd (nz w)
       by (u ∷ os) w few time =
           let x = w.1 in
@@ -120,13 +116,17 @@ module _ (n : ℕ → Node) (s : Settled) (left : ℕ) where
             );
           }
 
-  module _ (from k : ℕ) (p : Left n s left from k) where
+  module _ (spare from k : ℕ) (p : Left n s left spare from k) where
     pub guess_over : k ≡ 0 → Guesses n s left None
     unfolding holds
     guess_over z os w few time a d =
         let r = p.rest os w few time in
         let c = (r.same a).1 d in
         true≢false (sym (ap (λ x. each x any a) (sym (at_none r.us k r.many z)) ∙ c.one))
+
+    -- the tries never run out before the children do
+    pub guess_late : spare < 3 → Guesses n s left None
+    guess_late late os w few time = let r = p.rest os w few time in omega (arith, r.time)
 
     module _ (nz : k ≡ 0 → ⊥) (size : ℕ) (is : size ≡ size_of (n from)) where
       pub guess_far : question_room < from + size → Guesses n s left None
@@ -137,7 +137,7 @@ module _ (n : ℕ → Node) (s : Settled) (left : ℕ) where
 
       -- the first child alone, and the others
       record Child (os : List Tree) : Type 0 where
-        r : Rest n s left from k os
+        r : Rest n s spare from k os
         u : Tree
         others : Forest
         both : r.us ≡ more u others
@@ -146,8 +146,9 @@ module _ (n : ℕ → Node) (s : Settled) (left : ℕ) where
         work' : Work n (from + size) others s.ors (s.many - 1) r.under
         fewer : count others ≡ k - 1
         total : nodes_all r.us ≡ nodes_all (more u none) + nodes_all others
+        some : 1 ≤ nodes_all (more u none)
 
-      child : (os : List Tree) → Waits os n s.ors s.many → bulk os ≤ question_room → bulk os ≤ left → Child os
+      child : (os : List Tree) → Waits os n s.ors s.many → bulk os ≤ question_room → 3 * bulk os < left → Child os
       unfolding nodes Laid Named
       child os w few time =
           let r = p.rest os w few time in
@@ -172,6 +173,7 @@ module _ (n : ℕ → Node) (s : Settled) (left : ℕ) where
             };
             fewer = f.many;
             total = omega (arith, f.total);
+            some = omega (arith, some_node f.t);
           }
 
       -- it makes the whole true
@@ -200,15 +202,16 @@ module _ (n : ℕ → Node) (s : Settled) (left : ℕ) where
           by true e d q = absurd (no_one a (record { knows = d.knows; each = and_from _ _ e refl; owed = d.owed }))
           by false e d q = q
 
-      pub guess_found : (f : Found) → Attempts n from (from + size) s (left - 1) (Some f) → Guesses n s left (Some f)
+      pub guess_found : (f : Found) → Attempts n from (from + size) s (spare - 3) (Some f) → Guesses n s left (Some f)
       guess_found f h os w few time =
           let c = child os w few time in
           (c.r.same _).0 (chosen_first os c _ (h (more c.u none) c.r.under c.work c.end (omega (arith, c.total, c.r.time))))
 
-      pub guess_next : from + size ≤ question_room → (k' : ℕ) → k' ≡ k - 1 → Attempts n from (from + size) s (left - 1) None →
-          Left n s left (from + size) k'
+      pub guess_next : from + size ≤ question_room → (k' : ℕ) → k' ≡ k - 1 → Attempts n from (from + size) s (spare - 3) None →
+          Left n s left (spare - 1) (from + size) k'
       guess_next near k' one h = record {
         small = omega arith;
+        falls = omega (arith, p.falls);
         rest = λ os w few time.
             let c = child os w few time in
             let no_one = h (more c.u none) c.r.under c.work c.end (omega (arith, c.total, c.r.time)) in
@@ -217,7 +220,7 @@ module _ (n : ℕ → Node) (s : Settled) (left : ℕ) where
               under = c.r.under;
               work = c.work';
               many = c.fewer ∙ sym one;
-              time = omega (arith, c.total, c.r.time);
+              time = omega (arith, c.total, c.r.time, c.some);
               same = λ a. let q = chosen_rest os c no_one a in ((λ d. (c.r.same a).0 (q.0 d)), (λ d. q.1 ((c.r.same a).1 d)));
             };
       }
@@ -285,10 +288,10 @@ module _ (n : ℕ → Node) (s : Settled) (clear : Clear s) where
           h.stops refl (more u none) [] (whole u l few f) (end u size l is) d.0 d.1;
     }
 
-    guessed : Settles n 0 size s true s' → (r : Option Found) → Guesses n s' question_room r → (u : Tree) → Laid u n 0 →
+    guessed : Settles n 0 size s true s' → (r : Option Found) (left : ℕ) → 3 * question_room < left → Guesses n s' left r → (u : Tree) → Laid u n 0 →
         nodes u ≤ question_room → Named u → Answers (Done s (more u none) []) r
     unfolding bulk
-    guessed h r g u l few f =
+    guessed h r left enough g u l few f =
         let q = h.goes refl (more u none) [] (whole u l few f) (end u size l is) in
         let m = nothing_left q.us' (omega (arith, q.end, end u size l is)) in
         answers_same
@@ -299,9 +302,9 @@ module _ (n : ℕ → Node) (s : Settled) (clear : Clear s) where
         r
         (g q.os' q.work.waits (omega (arith, q.work.few)) (omega (arith, q.work.few)))
 
-    pub find_guessed : Settles n 0 size s true s' → (r : Option Found) → Guesses n s' question_room r → Finds n r
+    pub find_guessed : Settles n 0 size s true s' → (r : Option Found) (left : ℕ) → 3 * question_room < left → Guesses n s' left r → Finds n r
     unfolding holds
-    find_guessed h r g = record { right = λ u l few f. right u f r (guessed h r g u l few f) }
+    find_guessed h r left enough g = record { right = λ u l few f. right u f r (guessed h r left enough g u l few f) }
       where
         right : (u : Tree) → Named u → (r : Option Found) → Answers (Done s (more u none) []) r → Right u r
         right u f (Some found) d =

@@ -1,6 +1,6 @@
 -- What is settled, what waits, and what the search promises: yes exactly if some assignment satisfies the tree, and then one that does.
 -- Nothing here says in which order it guesses.
-use Rattle.std.specs.Prelude.{ℕ, suc, ◌+◌, ◌-◌, ◌/◌, ◌%◌, ◌^◌, ◌≤◌, ◌<◌, ◌≡◌, List, [], ◌∷◌, ◌↔◌, Bool, true, false, ◌&&◌, eqb, Option, Some, None, ℤ, pos, length, get_or, set}
+use Rattle.std.specs.Prelude.{ℕ, suc, ◌+◌, ◌-◌, ◌*◌, ◌/◌, ◌%◌, ◌^◌, ◌≤◌, ◌<◌, ◌≡◌, List, [], ◌∷◌, ◌↔◌, Bool, true, false, ◌&&◌, eqb, Option, Some, None, ℤ, pos, length, get_or, set}
 use Rattle.std.specs.Option.{unwrap_or}
 use Rattle.condition.specs.Limits.{last_boolean, last_number, question_room}
 use Rattle.condition.specs.Meaning.{Assignment, value, End, met, all, any, Tree, join, Forest, none, holds, each, EndWithin, given}
@@ -131,12 +131,12 @@ pub record Chosen (s : Settled) (us : Forest) (os : List Tree) (a : Assignment) 
 
 abbrev pub Guesses : (n : ℕ → Node) (s : Settled) (left : ℕ) (r : Option Found) → Type 0
 Guesses n s left r =
-    (os : List Tree) → Waits os n s.ors s.many → bulk os ≤ question_room → bulk os ≤ left → Answers (Done s none os) r
+    (os : List Tree) → Waits os n s.ors s.many → bulk os ≤ question_room → 3 * bulk os < left → Answers (Done s none os) r
 
 -- the `or` on top is out of the work, since one of its children is in it
 abbrev pub Attempts : (n : ℕ → Node) (from to : ℕ) (s : Settled) (left : ℕ) (r : Option Found) → Type 0
 Attempts n from to s left r =
-    (us : Forest) (os : List Tree) → Work n from us s.ors (s.many - 1) os → from + nodes_all us ≡ to → bulk os + nodes_all us ≤ left →
+    (us : Forest) (os : List Tree) → Work n from us s.ors (s.many - 1) os → from + nodes_all us ≡ to → 3 * (bulk os + nodes_all us) < left →
     Answers (Done s us os) r
 
 -- ---- the search: over all whole numbers

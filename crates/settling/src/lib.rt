@@ -6,7 +6,7 @@ ghost use Rattle.settling.specs.Settled.{Finds};
 
 use condition::{ASSIGNED, QUESTION_ROOM, Whole};
 use nodes::{Node, size_at};
-use settled::Settled;
+use settled::{Settled, TRIES};
 
 mod settled;
 
@@ -29,5 +29,5 @@ pub fn find(ns: &[Node]) -> Option<Found>
     if !known.settle(ns, 0, n) {
         return None;
     }
-    known.guess(ns, QUESTION_ROOM)
+    known.guess(ns, TRIES)
 }

@@ -9,6 +9,11 @@ use condition::{
 use differences::Table;
 use nodes::{Node, count_at, node_at, size_at};
 
+// A guess takes so many tries, and the search of a tree no more than that for each node of the room, and one.
+const GUESS: usize = 3;
+
+pub const TRIES: usize = GUESS * QUESTION_ROOM + 1;
+
 #[derive(Clone, Copy)]
 pub struct Settled {
     table: Table,
@@ -132,7 +137,8 @@ impl Settled {
         numbers
     }
 
-    // One child of each `or` that waits made true. `left` falls with each guess and never runs out, and no tree laid out goes beyond the room.
+    // One child of each `or` that waits made true. What is left of the tries falls by three with each guess and by one with each child that
+    // is passed over, and never runs out where a tree is laid out, which does not go beyond the room.
     #[cycle(attempt_guess)]
     pub fn guess(&self, ns: &[Node], left: usize) -> Option<Found>
         ensures { Guesses (node_at ns.now) self.now left result }
@@ -143,20 +149,22 @@ impl Settled {
                 numbers: self.numbers(),
             });
         }
-        if left == 0 {
-            return None;
-        }
         let top = usize::from(self.ors[self.many - 1]);
         let mut from = top + 1;
+        let mut spare = left;
         for _ in 0..count_at(ns, top) {
             let to = from + size_at(ns, from);
             if QUESTION_ROOM < to {
                 return None;
             }
-            if let Some(found) = self.attempt(ns, from, to, left - 1) {
+            if spare < GUESS {
+                return None;
+            }
+            if let Some(found) = self.attempt(ns, from, to, spare - GUESS) {
                 return Some(found);
             }
             from = to;
+            spare -= 1;
         }
         None
     }

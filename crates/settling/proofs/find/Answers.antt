@@ -13,4 +13,4 @@ returns-then-not-settle c =
 pub returns : goal.returns
 returns c =
     guessing.find_guessed _ _ c.nothing-known.ensures _ c.size_at-n.ensures.0 _ (rw c.if-not-settle.false at c.settle.ensures)
-    _ c.guess.ensures
+    _ _ (omega arith) c.guess.ensures

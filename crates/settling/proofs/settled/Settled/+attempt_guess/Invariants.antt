@@ -11,4 +11,4 @@ abbrev pub decreases-guess : goal.decreases-guess
 decreases-guess l = 2 * l.left
 
 abbrev pub invariant-guess-loop : goal.invariant-guess-loop
-invariant-guess-loop l = guessing.Left (node_at l.ns) l.self l.left l.from (l.end - l.counter)
+invariant-guess-loop l = guessing.Left (node_at l.ns) l.self l.left l.spare l.from (l.end - l.counter)
