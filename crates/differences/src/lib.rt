@@ -12,19 +12,19 @@ ghost use Rattle.differences.specs.Rows.{Ready, Part, lowered, Lowers};
 use condition::{FARTHEST, LARGEST_BOUND, LAST_NUMBER, Whole};
 
 // An entry. The largest sum on the way to one is six offsets.
-type Distance = u32;
+pub type Distance = u32;
 
 const NUMBERS: usize = LAST_NUMBER as usize + 1;
 
-const CELLS: usize = NUMBERS * NUMBERS;
+pub const CELLS: usize = NUMBERS * NUMBERS;
 
 const OFFSET: Distance = 2 * FARTHEST;
 
-// The entries, row after row, as callers always have them: no two in a row are tighter than the one from end to end.
+// The entries, row after row, no two in a row tighter than the one from end to end: a caller may read them, and make a table of its own.
 #[derive(Clone, Copy)]
 pub struct Table {
-    entries: [Distance; CELLS],
-    ghost closed: { Closed entries },
+    pub entries: [Distance; CELLS],
+    pub ghost closed: { Closed entries },
 }
 
 // Lowers row i in place to the way round by the new bound, where that is less: `left` is the row's way to y, and row y, which is

@@ -3,41 +3,32 @@
 // assignments are kept, what they tell is right: nothing needs to be known of them.
 #![tactic(auto)]
 
-ghost use Rattle.std.specs.Prelude.{◌≡◌, ◌*◌, ◌≤◌, ◌<◌, length, false, replicate};
+ghost use Rattle.std.specs.Prelude.{◌≡◌, ◌*◌, ◌≤◌, ◌<◌, min, length, false, replicate};
 ghost use Rattle.nodes.specs.Memory.{node_at};
-ghost use Rattle.keeping.specs.Kept.{questions, Notes, Learns, Replies};
+ghost use Rattle.keeping.specs.Kept.{kept, questions, Notes, Learns, Replies};
 
 use condition::{ASSIGNED, QUESTION_ROOM};
 use judging::Assignment;
 use nodes::Node;
 use settling::Found;
-use std::marker::Model;
 
 // Room for so many assignments. Those in all places but the last are kept; the last is taken anew by each one more.
-const KEPT: usize = 32;
+pub const KEPT: usize = 32;
 
 // Two questions about each end, and a tree has no more ends than nodes.
-const QUESTIONS: usize = 2 * QUESTION_ROOM;
+pub const QUESTIONS: usize = 2 * QUESTION_ROOM;
 
 // The first `many` of `found` are kept (an array and a count, since nothing is allocated), and the tree has been walked under the first
-// `tried` of these. `known` says which questions about it are known to be answered no, which is all that contracts see.
-#[derive(Drop)]
+// `tried` of these. `known` says which questions about it are known to be answered no, which is all that contracts ask of it. A caller may
+// put in whatever assignments it has.
+#[derive(Clone, Copy)]
 pub struct Kept {
-    found: [Found; KEPT],
-    many: usize,
-    tried: usize,
-    known: [bool; QUESTIONS],
-}
-
-impl Model for Kept {
-    ghost use Rattle.std.specs.Prelude.{◌≤◌, ◌<◌, List, Bool};
-    ghost use Rattle.keeping.specs.Kept.{kept};
-
-    ghost Value = { List Bool };
-
-    ghost view = { λ k. k.known };
-
-    ghost invariant = { λ k. (k.tried ≤ k.many) × (k.many < kept) };
+    pub found: [Found; KEPT],
+    pub many: usize,
+    pub tried: usize,
+    pub known: [bool; QUESTIONS],
+    pub ghost few: { many < kept },
+    pub ghost walked: { tried ≤ many },
 }
 
 // Makes known each question that a mark answers no: question one about an end that is false, question two about one that is true.
@@ -83,7 +74,7 @@ fn recall(ns: &[Node], q: usize, found: &[Found], known: &mut [bool; QUESTIONS])
 impl Kept {
     // Before the first question nothing is kept.
     pub fn none() -> Self
-        ensures { result ≡ replicate questions false }
+        ensures { result.known ≡ replicate questions false }
     {
         Kept {
             found: [Found {
@@ -96,9 +87,29 @@ impl Kept {
         }
     }
 
+    // What a caller kept: its assignments up to `many`, the tree walked under the first `tried` of these, if there are so many, and what it
+    // knows of the tree.
+    pub fn resumed(
+        found: [Found; KEPT],
+        many: usize,
+        tried: usize,
+        known: [bool; QUESTIONS],
+    ) -> Self
+        requires { many < kept }
+        ensures { (result.found ≡ found) × (result.many ≡ many) × (result.tried ≡ min tried many) × (result.known ≡ known) }
+    {
+        let walked = tried.min(many);
+        Kept {
+            found,
+            many,
+            tried: walked,
+            known,
+        }
+    }
+
     // Another tree: nothing is known of it, and it has not been walked under any of the assignments, which stay.
     pub fn another_tree(&mut self)
-        ensures { self.new ≡ replicate questions false }
+        ensures { self.new.known ≡ replicate questions false }
     {
         self.tried = 0;
         self.known = [false; QUESTIONS];
@@ -108,7 +119,7 @@ impl Kept {
     // question two. A question is told by its number in the sweep's order, as the definition `numbered` has it.
     pub fn answer(&mut self, ns: &[Node], q: usize) -> bool
         requires { q < questions }
-        ensures { Replies (node_at ns.now) q self.old result self.new }
+        ensures { Replies (node_at ns.now) q self.old.known result self.new.known }
     {
         // Taken apart, so that what is known can be changed while an assignment is lent.
         let Kept {

@@ -404,30 +404,30 @@ module _ (ns₀ ns : List Node) (s : List ℕ) where
   shown : (r : Result Part Refusal) → NodeRight ns₀ ns s start r → Shows Laid nodes ends s ns 0 0 r (read_tree most_ends s 0 0)
   shown r right = subst (λ l. Shows Laid nodes ends s ns 0 0 r (read_tree most_ends l 0 0)) (from_start s) (right.is most_ends (omega arith))
 
-  pub whole_stops : (why : Refusal) → NodeRight ns₀ ns s start (Err why) → Holds (Err why) (read_of s)
+  pub whole_stops : (why : Refusal) → NodeRight ns₀ ns s start (Err why) → Holds ns (Err why) (read_of s)
   unfolding read_of
   whole_stops why right = by (read_tree most_ends s 0 0) (shown (Err why) right)
     where
-      by : (x : Reading Tree) → Shows Laid nodes ends s ns 0 0 (Err why) x → Holds (Err why) (whole x)
+      by : (x : Reading Tree) → Shows Laid nodes ends s ns 0 0 (Err why) x → Holds ns (Err why) (whole x)
       by (got t l at) h = absurd h
       by (refused a p) h = h
 
   module _ (p : Part) (right : NodeRight ns₀ ns s start (Ok p)) where
-    pub whole_after : p.cursor.at < length s → Holds (Err (After p.cursor.at)) (read_of s)
+    pub whole_after : p.cursor.at < length s → Holds ns (Err (After p.cursor.at)) (read_of s)
     unfolding read_of
     whole_after lt = by (read_tree most_ends s 0 0) (shown (Ok p) right)
       where
-        by : (x : Reading Tree) → Shows Laid nodes ends s ns 0 0 (Ok p) x → Holds (Err (After p.cursor.at)) (whole x)
+        by : (x : Reading Tree) → Shows Laid nodes ends s ns 0 0 (Ok p) x → Holds ns (Err (After p.cursor.at)) (whole x)
         by (got t l at) h = rw (h.rest, first_byte s p.cursor.at _ lt refl) (refl, h.place)
         by (refused a q) h = absurd h
 
-    pub whole_read : length s ≤ p.cursor.at → Holds (Ok ns) (read_of s)
+    pub whole_read : length s ≤ p.cursor.at → Holds ns (Ok tt) (read_of s)
     unfolding read_of
     whole_read le = by (read_tree most_ends s 0 0) (shown (Ok p) right)
       where
         went : Went 1 ns₀ ns (length s) 0 0 0 p
         went = right.goes
 
-        by : (x : Reading Tree) → Shows Laid nodes ends s ns 0 0 (Ok p) x → Holds (Ok ns) (whole x)
+        by : (x : Reading Tree) → Shows Laid nodes ends s ns 0 0 (Ok p) x → Holds ns (Ok tt) (whole x)
         by (got t l at) h = rw (h.rest, no_bytes s p.cursor.at le) (h.stands, omega (arith, h.next, went.fits, went.most))
         by (refused a q) h = absurd h

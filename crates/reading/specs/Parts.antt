@@ -66,8 +66,8 @@ pub record ChildrenRight (ns₀ ns : List Node) (s : List ℕ) (k : ℕ) (done :
   pub goes : IfOk r (Went k ns₀ ns (length s) done.cursor.at done.ends done.free)
 
 -- the whole: the tree read stands from node 0 on, and has room; or the refusal with document 01's number and place
-abbrev pub Holds : Result (List Node) Refusal → Read → Type 0
-Holds (Ok ns) (tree t) = Laid t (node_at ns) 0 × (nodes t ≤ tree_room)
-Holds (Ok ns) (refusal a p) = ⊥
-Holds (Err why) (tree t) = ⊥
-Holds (Err why) (refusal a p) = (a ≡ answer_of why) × (p ≡ place_of why)
+abbrev pub Holds : List Node → Result Unit Refusal → Read → Type 0
+Holds ns (Ok _) (tree t) = Laid t (node_at ns) 0 × (nodes t ≤ tree_room)
+Holds ns (Ok _) (refusal a p) = ⊥
+Holds ns (Err why) (tree t) = ⊥
+Holds ns (Err why) (refusal a p) = (a ≡ answer_of why) × (p ≡ place_of why)

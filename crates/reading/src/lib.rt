@@ -20,6 +20,14 @@ struct Part {
     ends: u32,
 }
 
+// A condition in memory, its root at node 0, where it was read. (Not in the `Result`, out of which the room would be copied twice: a tree of
+// one node would take twice as long to judge.)
+#[derive(Clone, Copy)]
+pub struct Held {
+    pub nodes: [Node; TREE_ROOM],
+    pub answer: Result<(), Refusal>,
+}
+
 // c + LARGEST_BOUND, for c as it is written.
 #[tactic(auto, using(crate::proofs::Bounds::even, crate::proofs::Bounds::odd))]
 fn shift(w: Numeral) -> u32
@@ -136,20 +144,31 @@ fn children(s: &[u8], mut done: Part, k: u32, ns: &mut [Node]) -> Result<Part, R
     Ok(done)
 }
 
-// The whole input: a condition in memory, its root at node 0.
-pub fn read(s: &[u8]) -> Result<[Node; TREE_ROOM], Refusal>
-    ensures { Holds result (read_of s.now) }
+// The whole input into the room that is lent, the root to node 0.
+fn whole(s: &[u8], ns: &mut [Node; TREE_ROOM]) -> Result<(), Refusal>
+    ensures { Holds ns.new result (read_of s.now) }
 {
-    let mut ns = [Node::Plain(false); TREE_ROOM];
     let start = Part {
         free: 0,
         cursor: Cursor { at: 0 },
         ends: 0,
     };
-    let whole = node(s, start, &mut ns)?;
+    let whole = node(s, start, ns)?;
     let at = whole.cursor.at;
     if at < s.len() {
         return Err(Refusal::After(at));
     }
-    Ok(ns)
+    Ok(())
+}
+
+// The whole input.
+pub fn read(s: &[u8]) -> Held
+    ensures { Holds result.nodes result.answer (read_of s.now) }
+{
+    let mut held = Held {
+        nodes: [Node::Plain(false); TREE_ROOM],
+        answer: Ok(()),
+    };
+    held.answer = whole(s, &mut held.nodes);
+    held
 }

@@ -23,33 +23,34 @@ pub struct Swept {
 pub fn sweep(ns: &[Node], ration: u32) -> Swept
     ensures { Sweeps (node_at ns.now) ration result.tree result.asked result.finished }
 {
-    let mut tree = [Node::Plain(false); TREE_ROOM];
-    folding::fold(ns, None, &mut tree);
-    let mut end = 2 * asking::live(&tree);
+    // The result from the start: it is changed in place and handed out, not copied together.
+    let mut swept = Swept {
+        tree: [Node::Plain(false); TREE_ROOM],
+        asked: 0,
+        finished: false,
+    };
+    folding::fold(ns, None, &mut swept.tree);
+    let mut end = 2 * asking::live(&swept.tree);
     let mut kept = Kept::none();
     let mut q: usize = 0;
-    let mut asked: u32 = 0;
     // No `for`: after a cut q starts again, and how many were asked outlives the loop.
-    while asked < ration && q < end {
-        let yes = kept.answer(&tree, q);
-        asked += 1;
+    while swept.asked < ration && q < end {
+        let yes = kept.answer(&swept.tree, q);
+        swept.asked += 1;
         if yes {
             let cut = Cut {
                 end: q / 2,
                 to: q % 2 == 0,
             };
-            let before = tree;
-            folding::fold(&before, Some(cut), &mut tree);
-            end = 2 * asking::live(&tree);
+            let before = swept.tree;
+            folding::fold(&before, Some(cut), &mut swept.tree);
+            end = 2 * asking::live(&swept.tree);
             kept.another_tree();
             q = 0;
             continue;
         }
         q += 1;
     }
-    Swept {
-        tree,
-        asked,
-        finished: end <= q,
-    }
+    swept.finished = end <= q;
+    swept
 }

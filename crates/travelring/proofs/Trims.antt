@@ -53,27 +53,27 @@ module _ (a : Answer) (out out' : List ℕ) (needed : ℕ) (wrote : Wrote a.tree
         lent = wrote.here h ∙ simp n;
       })
 
-module _ (s : List ℕ) (ration : ℕ) (out : List ℕ) (x : Result (List Node) Refusal) (held : Holds x (read s)) where
+module _ (s : List ℕ) (ration : ℕ) (out : List ℕ) (x : Result Unit Refusal) (ns : List Node) (held : Holds ns x (read s)) where
   as_read : (r : Result Trimmed TrimRefusal) (out' : List ℕ) → Shows (outcome_read (read s) ration (length out)) out r out' →
       Trims s ration out r out'
   unfolding outcome
   as_read r out' h = record { told = h.told; long = h.long; lent = h.lent }
 
   pub trim_refuses : (why : Refusal) → x ≡ Err why → Trims s ration out (Err (Bytes why)) out
-  trim_refuses why e = as_read (Err (Bytes why)) out (carried (read s) (subst (λ z. Holds z (read s)) e held))
+  trim_refuses why e = as_read (Err (Bytes why)) out (carried (read s) (subst (λ z. Holds ns z (read s)) e held))
     where
-      carried : (y : Read) → Holds (Err why) y → Shows (outcome_read y ration (length out)) out (Err (Bytes why)) out
+      carried : (y : Read) → Holds ns (Err why) y → Shows (outcome_read y ration (length out)) out (Err (Bytes why)) out
       carried (tree t) h = absurd h
       carried (refusal n p) h = record { told = simp (h.0, h.1); long = refl; lent = refl }
 
-  module _ (octet : (i : ℕ) → get_or s i 0 < 256) (ns : List Node) (e : x ≡ Ok ns) (result : List Node) (asked : ℕ)
+  module _ (octet : (i : ℕ) → get_or s i 0 < 256) (u : Unit) (e : x ≡ Ok u) (result : List Node) (asked : ℕ)
       (finished : Bool) (swept : Sweeps (node_at ns) ration result asked finished) where
     -- the tree read, and what is said of its result
     record Reached (t : Tree) : Type 0 where
       says : Says (trimmed t ration) result asked finished
       small : nodes (trimmed t ration).tree ≤ tree_room
 
-    reached : (t : Tree) → read s ≡ tree t → Holds (Ok ns) (tree t) → Reached t
+    reached : (t : Tree) → read s ≡ tree t → Holds ns (Ok u) (tree t) → Reached t
     reached t same h =
         let within = (read_written s t (octets s octet) same).1 in
         let inside = trimmed_within t ration within in
@@ -86,9 +86,9 @@ module _ (s : List ℕ) (ration : ℕ) (out : List ℕ) (x : Result (List Node) 
 
       by_tree : (r : Result Trimmed TrimRefusal) →
           ((t : Tree) → Reached t → Shows (fitted (length out) (trimmed t ration)) out r out') → Trims s ration out r out'
-      by_tree r f = as_read r out' (told (read s) refl (subst (λ z. Holds z (read s)) e held))
+      by_tree r f = as_read r out' (told (read s) refl (subst (λ z. Holds ns z (read s)) e held))
         where
-          told : (y : Read) → read s ≡ y → Holds (Ok ns) y → Shows (outcome_read y ration (length out)) out r out'
+          told : (y : Read) → read s ≡ y → Holds ns (Ok u) y → Shows (outcome_read y ration (length out)) out r out'
           told (tree t) same h = f t (reached t same h)
           told (refusal m p) same h = absurd h
 

@@ -40,24 +40,24 @@ module _ (s : List ℕ) (flags : ℕ) (numbers : List ℤ) where
   unfolding judged
   judge_unfit h = simp (ne_eqb _ _ h)
 
-  module _ (fit : length numbers ≡ last_number) (x : Result (List Node) Refusal) (held : Holds x (read s)) where
+  module _ (fit : length numbers ≡ last_number) (x : Result Unit Refusal) (ns : List Node) (held : Holds ns x (read s)) where
     by_tree : (r : Result Bool JudgeRefusal) → told r ≡ judged_tree (read s) (given flags numbers) → told r ≡ judged s flags numbers
     unfolding judged
     by_tree r e = simp (eq-eqb _ _ fit) e
 
     pub judge_refuses : (why : Refusal) → x ≡ Err why → told (Err (judge_refusal.Bytes why)) ≡ judged s flags numbers
-    judge_refuses why e = by_tree (Err (judge_refusal.Bytes why)) (carried (read s) (subst (λ z. Holds z (read s)) e held))
+    judge_refuses why e = by_tree (Err (judge_refusal.Bytes why)) (carried (read s) (subst (λ z. Holds ns z (read s)) e held))
       where
-        carried : (y : Read) → Holds (Err why) y → told (Err (judge_refusal.Bytes why)) ≡ judged_tree y (given flags numbers)
+        carried : (y : Read) → Holds ns (Err why) y → told (Err (judge_refusal.Bytes why)) ≡ judged_tree y (given flags numbers)
         carried (tree t) h = absurd h
         carried (refusal n p) h = simp (h.0, h.1)
 
-    pub judge_values : (ns : List Node) (v : Bool) → x ≡ Ok ns →
+    pub judge_values : (u : Unit) (v : Bool) → x ≡ Ok u →
         ((t : Tree) → Laid t (node_at ns) 0 → nodes t ≤ question_room → v ≡ holds t (given flags numbers)) →
         told (Ok v) ≡ judged s flags numbers
-    judge_values ns v e f = by_tree (Ok v) (valued (read s) (subst (λ z. Holds z (read s)) e held))
+    judge_values u v e f = by_tree (Ok v) (valued (read s) (subst (λ z. Holds ns z (read s)) e held))
       where
-        valued : (y : Read) → Holds (Ok ns) y → told (Ok v) ≡ judged_tree y (given flags numbers)
+        valued : (y : Read) → Holds ns (Ok u) y → told (Ok v) ≡ judged_tree y (given flags numbers)
         valued (tree t) h = simp (f t h.0 (omega (arith, h.1)))
         valued (refusal m p) h = absurd h
 
@@ -67,24 +67,24 @@ module _ (s : List ℕ) (numbers : List ℤ) where
   pub find_unfit : (length numbers ≡ last_number → ⊥) → Finds s numbers (Err find_refusal.Unfit) numbers
   find_unfit h = record { unfit = λ z. record { told = refl; kept = refl }; fit = λ z. absurd (h z) }
 
-  module _ (fit : length numbers ≡ last_number) (x : Result (List Node) Refusal) (held : Holds x (read s)) where
+  module _ (fit : length numbers ≡ last_number) (x : Result Unit Refusal) (ns : List Node) (held : Holds ns x (read s)) where
     as_read : (r : Result ℕ FindRefusal) (numbers' : List ℤ) → FindsRead (read s) numbers r numbers' → Finds s numbers r numbers'
     as_read r numbers' h = record { unfit = λ z. absurd (z fit); fit = λ z. h }
 
     pub find_refuses : (why : Refusal) → x ≡ Err why → Finds s numbers (Err (find_refusal.Bytes why)) numbers
-    find_refuses why e = as_read (Err (find_refusal.Bytes why)) numbers (carried (read s) (subst (λ z. Holds z (read s)) e held))
+    find_refuses why e = as_read (Err (find_refusal.Bytes why)) numbers (carried (read s) (subst (λ z. Holds ns z (read s)) e held))
       where
-        carried : (y : Read) → Holds (Err why) y → FindsRead y numbers (Err (find_refusal.Bytes why)) numbers
+        carried : (y : Read) → Holds ns (Err why) y → FindsRead y numbers (Err (find_refusal.Bytes why)) numbers
         carried (tree t) h = absurd h
         carried (refusal n p) h = record { told = simp (h.0, h.1); kept = refl }
 
     -- the tree read is within the limits, so the search speaks of it
-    module _ (bytes : (i : ℕ) → get_or s i 0 < 256) (ns : List Node) (e : x ≡ Ok ns) where
+    module _ (bytes : (i : ℕ) → get_or s i 0 < 256) (u : Unit) (e : x ≡ Ok u) where
       settles : (v : Option Found) → settled.Finds (node_at ns) v → (r : Result ℕ FindRefusal) (numbers' : List ℤ) →
           ((t : Tree) → settled.Right t v → FindsRead (tree t) numbers r numbers') → Finds s numbers r numbers'
-      settles v f r numbers' answered = as_read r numbers' (told (read s) refl (subst (λ z. Holds z (read s)) e held))
+      settles v f r numbers' answered = as_read r numbers' (told (read s) refl (subst (λ z. Holds ns z (read s)) e held))
         where
-          told : (y : Read) → read s ≡ y → Holds (Ok ns) y → FindsRead y numbers r numbers'
+          told : (y : Read) → read s ≡ y → Holds ns (Ok u) y → FindsRead y numbers r numbers'
           told (tree t) same h =
               answered t
               (f.right t h.0 (omega (arith, h.1)) (formed_named t (read_written s t (octets s bytes) same).1.formed))

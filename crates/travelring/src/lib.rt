@@ -163,8 +163,9 @@ pub fn judge(tree: &[u8], flags: u32, numbers: &[Whole]) -> Result<bool, JudgeRe
     if numbers.len() != ASSIGNED {
         return Err(JudgeRefusal::Unfit);
     }
-    let ns = reading::read(tree)?;
-    Ok(judging::judge(&ns, Assignment { flags, numbers }))
+    let held = reading::read(tree);
+    held.answer?;
+    Ok(judging::judge(&held.nodes, Assignment { flags, numbers }))
 }
 
 // An assignment that makes the condition written in tree true: its numbers are written, its boolean bits returned,
@@ -175,8 +176,9 @@ pub fn find(tree: &[u8], numbers: &mut [Whole]) -> Result<u32, FindRefusal>
     if numbers.len() != ASSIGNED {
         return Err(FindRefusal::Unfit);
     }
-    let ns = reading::read(tree)?;
-    let Some(found) = settling::find(&ns) else {
+    let held = reading::read(tree);
+    held.answer?;
+    let Some(found) = settling::find(&held.nodes) else {
         return Err(FindRefusal::Nothing);
     };
     numbers.copy_from_slice(&found.numbers);
@@ -187,8 +189,9 @@ pub fn find(tree: &[u8], numbers: &mut [Whole]) -> Result<u32, FindRefusal>
 pub fn trim(tree: &[u8], ration: u32, out: &mut [u8]) -> Result<Trimmed, TrimRefusal>
     ensures { Trims tree.now ration out.old result out.new }
 {
-    let ns = reading::read(tree)?;
-    let swept = sweeping::sweep(&ns, ration);
+    let held = reading::read(tree);
+    held.answer?;
+    let swept = sweeping::sweep(&held.nodes, ration);
     let room = out.len();
     let bytes = writing::write(&swept.tree, out);
     if room < bytes {

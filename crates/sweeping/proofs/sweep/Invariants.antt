@@ -4,10 +4,10 @@ use Rattle.nodes.specs.Memory.{node_at}
 use Rattle.sweeping.proofs.Stages.{Goes}
 use Rattle.sweeping.proofs.sweep.Given as goal
 
-abbrev pub invariant-loop-asked : goal.invariant-loop-asked
-invariant-loop-asked l =
-    Goes (node_at l.ns) l.ration l.tree l.end l.kept l.q l.asked
+abbrev pub invariant-loop-swept : goal.invariant-loop-swept
+invariant-loop-swept l =
+    Goes (node_at l.ns) l.ration l.swept.tree l.end l.kept.known l.q l.swept.asked
 
-abbrev pub decreases-loop-asked : goal.decreases-loop-asked
-decreases-loop-asked l =
-    l.ration - l.asked
+abbrev pub decreases-loop-swept : goal.decreases-loop-swept
+decreases-loop-swept l =
+    l.ration - l.swept.asked

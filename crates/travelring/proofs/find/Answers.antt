@@ -3,18 +3,18 @@ use native.Mathlib.Omega.{arith}
 use Rattle.travelring.proofs.Ways as ways
 use Rattle.travelring.proofs.find.Goals as goal
 
-pub returns-in_err-ns : goal.returns-in_err-ns
-returns-in_err-ns c =
+pub returns-in_err-held : goal.returns-in_err-held
+returns-in_err-held c =
     rw (ways.passed _ _ c.from_residual.ensures)
-    (ways.find_refuses _ _ c.if-numbers-ne-ASSIGNED.false _ c.read.ensures _ c.in_err-ns.was)
+    (ways.find_refuses _ _ c.if-numbers-ne-ASSIGNED.false _ _ c.read-held.ensures _ c.in_err-held.was)
 
 pub returns-in_default : goal.returns-in_default
 returns-in_default c =
-    ways.find_shows_none _ _ c.if-numbers-ne-ASSIGNED.false _ c.read.ensures (λ i. (c.type_inv.tree i).fits) _ c.in_ok-ns.was
+    ways.find_shows_none _ _ c.if-numbers-ne-ASSIGNED.false _ _ c.read-held.ensures (λ i. (c.type_inv.tree i).fits) _ c.in_ok-held.was
     c.in_default.ensures
 
 pub returns : goal.returns
 returns c =
     rw c.copy_from_slice.ensures.after
-    (ways.find_shows _ _ c.if-numbers-ne-ASSIGNED.false _ c.read.ensures (λ i. (c.type_inv.tree i).fits) _ c.in_ok-ns.was
+    (ways.find_shows _ _ c.if-numbers-ne-ASSIGNED.false _ _ c.read-held.ensures (λ i. (c.type_inv.tree i).fits) _ c.in_ok-held.was
     _ c.in-Some.ensures (omega arith))

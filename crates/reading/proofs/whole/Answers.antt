@@ -1,7 +1,7 @@
--- `reading::read` meets its contract: the root is read from byte 0 into node 0, and then the bytes must end.
+-- `reading::whole` meets its contract: the root is read from byte 0 into node 0, and then the bytes must end.
 use Rattle.std.proofs.lemmas.Result.{err_from_is_err_and}
 use Rattle.reading.proofs.Ways as ways
-use Rattle.reading.proofs.read.Goals as goal
+use Rattle.reading.proofs.whole.Goals as goal
 
 pub returns-in_err-whole : goal.returns-in_err-whole
 returns-in_err-whole c =
