@@ -19,8 +19,8 @@ pub const KEPT: usize = 32;
 pub const QUESTIONS: usize = 2 * QUESTION_ROOM;
 
 // The first `many` of `found` are kept (an array and a count, since nothing is allocated), and the tree has been walked under the first
-// `tried` of these. `known` says which questions about it are known to be answered no, which is all that contracts ask of it. A caller may
-// put in whatever assignments it has.
+// `tried` of these. `known` says which questions about it are known to be answered no, and what `answer` promises speaks of that alone: a
+// caller may put in whatever assignments it has.
 #[derive(Clone, Copy)]
 pub struct Kept {
     pub found: [Found; KEPT],

@@ -12,6 +12,7 @@ ghost use Rattle.travelring.specs.declared.TrimRefusal.TheVariants as trim_refus
 use condition::{ASSIGNED, Whole};
 use cursor::Refusal;
 use judging::Assignment;
+use reading::Held;
 
 // Why judge gives no value: a refusal of the bytes, or numbers that aren't as many as an assignment has.
 #[derive(Clone, Copy)]
@@ -163,9 +164,9 @@ pub fn judge(tree: &[u8], flags: u32, numbers: &[Whole]) -> Result<bool, JudgeRe
     if numbers.len() != ASSIGNED {
         return Err(JudgeRefusal::Unfit);
     }
-    let held = reading::read(tree);
-    held.answer?;
-    Ok(judging::judge(&held.nodes, Assignment { flags, numbers }))
+    let Held { nodes, answer } = reading::read(tree);
+    answer?;
+    Ok(judging::judge(&nodes, Assignment { flags, numbers }))
 }
 
 // An assignment that makes the condition written in tree true: its numbers are written, its boolean bits returned,
@@ -176,9 +177,9 @@ pub fn find(tree: &[u8], numbers: &mut [Whole]) -> Result<u32, FindRefusal>
     if numbers.len() != ASSIGNED {
         return Err(FindRefusal::Unfit);
     }
-    let held = reading::read(tree);
-    held.answer?;
-    let Some(found) = settling::find(&held.nodes) else {
+    let Held { nodes, answer } = reading::read(tree);
+    answer?;
+    let Some(found) = settling::find(&nodes) else {
         return Err(FindRefusal::Nothing);
     };
     numbers.copy_from_slice(&found.numbers);
@@ -189,9 +190,9 @@ pub fn find(tree: &[u8], numbers: &mut [Whole]) -> Result<u32, FindRefusal>
 pub fn trim(tree: &[u8], ration: u32, out: &mut [u8]) -> Result<Trimmed, TrimRefusal>
     ensures { Trims tree.now ration out.old result out.new }
 {
-    let held = reading::read(tree);
-    held.answer?;
-    let swept = sweeping::sweep(&held.nodes, ration);
+    let Held { nodes, answer } = reading::read(tree);
+    answer?;
+    let swept = sweeping::sweep(&nodes, ration);
     let room = out.len();
     let bytes = writing::write(&swept.tree, out);
     if room < bytes {
